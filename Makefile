@@ -1,0 +1,22 @@
+# The main job: a program of crates/ and a sample for its standard input.
+PROGRAM = checksum
+SAMPLE = samples/check.txt
+
+.NOTPARALLEL:
+.PHONY: run test differ bench clean
+
+run:
+	@scripts/run $(PROGRAM) $(SAMPLE)
+
+test:
+	@scripts/test
+
+# SEED=N repeats an earlier run.
+differ:
+	@scripts/judge differ --long $(if $(SEED),--seed $(SEED))
+
+bench:
+	@scripts/judge bench --long
+
+clean:
+	rm -rf target host/target host/Cargo.lock

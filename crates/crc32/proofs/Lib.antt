@@ -1,0 +1,4 @@
+pub mod Linear
+pub mod ByTable
+pub mod Rule
+pub mod Walk

@@ -1,0 +1,12 @@
+use mathlib.Core.Path.{refl}
+use Rattle.crc32.specs.Crc32.{polyIf, bitStep, bitSteps}
+use Rattle.crc32.proofs.Rule.{first, both, pairs, count}
+use Rattle.crc32.proofs.byte_table.Statement.{statement}
+use Rattle.crc32.proofs.byte_table.Tie as tie
+
+returns : tie.Need-returns
+unfolding both pairs count polyIf bitStep bitSteps
+returns c = first _ tt refl
+
+pub byte-table-spec : {M : Type 1} → statement M
+byte-table-spec = tie.close (tie.spec returns)

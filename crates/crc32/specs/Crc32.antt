@@ -1,0 +1,40 @@
+-- CRC-32 of IEEE 802.3, bit by bit (01, 'Bank and record'): reflected polynomial 0xEDB88320, start and final exclusive-or 0xFFFFFFFF.
+use mathlib.Core.Path.{_≡_, refl}
+use mathlib.Core.List.{List, [], _∷_}
+use Prim.Native.Nat.{ℕ, zero, suc, _/_, _%_, _<_}
+use lib.ListN.{getD}
+use lib.Bits.{bitXor}
+
+-- each element is a byte, as those of a `&[u8]` are
+abbrev pub Bytes : List ℕ → Type 0
+Bytes l = (i : ℕ) → getD l i 0 < 256
+
+-- the polynomial where the bit shifted out is 1
+unfoldable pub polyIf : ℕ → ℕ
+polyIf zero = 0
+polyIf (suc n) = 0xEDB88320
+
+-- one bit: shift right, and exclusive-or the polynomial where the bit shifted out is 1
+unfoldable pub bitStep : ℕ → ℕ
+bitStep c = bitXor (polyIf (c % 2)) (c / 2)
+
+unfoldable pub bitSteps : ℕ → ℕ → ℕ
+bitSteps zero c = c
+bitSteps (suc n) c = bitSteps n (bitStep c)
+
+-- one byte, lowest bit first
+unfoldable pub byteStep : ℕ → ℕ → ℕ
+byteStep c b = bitSteps 8 (bitXor c b)
+
+-- the register after a list of bytes
+unfoldable pub byteSteps : ℕ → List ℕ → ℕ
+byteSteps c [] = c
+byteSteps c (b ∷ bs) = byteSteps (byteStep c b) bs
+
+unfoldable pub crc32Of : List ℕ → ℕ
+crc32Of bs = bitXor (byteSteps 0xFFFFFFFF bs) 0xFFFFFFFF
+
+-- P8 of 01: the check value of `123456789`, and nothing
+pub p8 : (crc32Of (0x31 ∷ 0x32 ∷ 0x33 ∷ 0x34 ∷ 0x35 ∷ 0x36 ∷ 0x37 ∷ 0x38 ∷ 0x39 ∷ []) ≡ 0xCBF43926) × (crc32Of [] ≡ 0)
+unfolding crc32Of byteSteps byteStep bitSteps bitStep polyIf
+p8 = (refl, refl)

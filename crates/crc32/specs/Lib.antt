@@ -1,0 +1,2 @@
+pub mod Crc32
+pub mod Table

@@ -1,0 +1,128 @@
+// CRC-32 of IEEE 802.3: a byte at a time by a table of 256, and sixteen bytes a turn by sixteen such tables.
+mod rows;
+mod table;
+
+use rows::ROWS;
+use table::TABLE;
+ghost use mathlib.Core.Path.{_≡_};
+ghost use Prim.Native.Nat.{_+_, _*_, _<_, _≤_};
+ghost use lib.ListN.{length};
+ghost use Rattle.crc32.specs.Crc32.{crc32Of};
+ghost use Rattle.crc32.specs.Table.{IsTables, entry, byBytes, shares, block, byBlocks, crc32By, Copied};
+
+// Start and final exclusive-or.
+const ONES: u32 = 0xFFFF_FFFF;
+
+// Below this length a byte at a time takes less time than the sixteen tables take to make.
+const LONG: usize = 112;
+
+fn wide(b: u8) -> u32
+    ensures { λ r. ⌜ r ≡ b ⌝ }
+{
+    b as u32
+}
+
+fn look(t: &[u32], row: usize, n: u32) -> u32
+    requires { ⌜ (row < 16) × ((row + 1) * 256 ≤ length (now t)) ⌝ }
+    ensures { λ r. ⌜ r ≡ entry (now (t .entry)) row n ⌝ }
+{
+    t[row * 256 + (n & 0xff) as usize]
+}
+
+fn by_bytes(t: &[u32], start: u32, bytes: &[u8]) -> u32
+    requires { ⌜ 256 ≤ length (now t) ⌝ }
+    ensures { λ r. ⌜ r ≡ byBytes (now (t .entry)) start (now (bytes .entry)) ⌝ }
+{
+    let mut crc = start;
+    let mut i: usize = 0;
+    while i < bytes.len() {
+        crc = look(t, 0, crc ^ wide(bytes[i])) ^ (crc >> 8);
+        i += 1;
+    }
+    crc
+}
+
+fn add_shares(t: &[u32], after: usize, start: u32, crc: u32, bytes: &[u8]) -> u32
+    requires { ⌜ (after + length (now bytes) ≤ 16) × (4096 ≤ length (now t)) ⌝ }
+    ensures { λ r. ⌜ r ≡ shares (now (t .entry)) after start crc (now (bytes .entry)) ⌝ }
+{
+    let mut acc = start;
+    let mut c = crc;
+    let mut i: usize = 0;
+    while i < bytes.len() {
+        acc ^= look(t, after + (bytes.len() - 1 - i), c ^ wide(bytes[i]));
+        c = c >> 8;
+        i += 1;
+    }
+    acc
+}
+
+fn by_block(t: &[u32], crc: u32, bytes: &[u8]) -> u32
+    requires { ⌜ (length (now bytes) ≡ 16) × (4096 ≤ length (now t)) ⌝ }
+    ensures { λ r. ⌜ r ≡ block (now (t .entry)) crc (now (bytes .entry)) ⌝ }
+{
+    let late = add_shares(t, 0, 0, 0, &bytes[4..]);
+    add_shares(t, 12, late, crc, &bytes[..4])
+}
+
+fn by_blocks(t: &[u32], start: u32, bytes: &[u8]) -> u32
+    requires { ⌜ 4096 ≤ length (now t) ⌝ }
+    ensures { λ r. ⌜ r ≡ byBlocks (now (t .entry)) start (now (bytes .entry)) ⌝ }
+{
+    let mut crc = start;
+    let mut i: usize = 0;
+    while 16 <= bytes.len() - i {
+        let e = i + 16;
+        crc = by_block(t, crc, &bytes[i..e]);
+        i = e;
+    }
+    by_bytes(t, crc, &bytes[i..])
+}
+
+fn copy(src: &[u32], dst: &mut [u32])
+    requires { ⌜ length (now src) ≤ length (now dst) ⌝ }
+    ensures { λ _. ⌜ Copied (now (src .entry)) (now (dst .entry)) (now (dst .exit)) ⌝ }
+{
+    let mut i: usize = 0;
+    while i < src.len() {
+        dst[i] = src[i];
+        i += 1;
+    }
+}
+
+fn byte_table() -> [u32; 256]
+    ensures { λ r. ⌜ IsTables 1 r ⌝ }
+{
+    TABLE
+}
+
+// The sixteen tables, for a caller that lends them to many calls: making them costs more than a short checksum.
+pub fn tables() -> [u32; 4096]
+    ensures { λ r. ⌜ IsTables 16 r ⌝ }
+{
+    let first = byte_table();
+    let rows = ROWS;
+    let mut t = [0u32; 4096];
+    copy(&first, &mut t[..]);
+    copy(&rows, &mut t[256..]);
+    t
+}
+
+// By lent tables. Any tables have a defined result; those of `tables` give the CRC-32.
+pub fn crc32_with(t: &[u32; 4096], bytes: &[u8]) -> u32
+    ensures { λ r. ⌜ (r ≡ crc32By (now (t .entry)) (now (bytes .entry))) × (IsTables 16 (now (t .entry)) → r ≡ crc32Of (now (bytes .entry))) ⌝ }
+{
+    by_blocks(t, ONES, bytes) ^ ONES
+}
+
+pub fn crc32(bytes: &[u8]) -> u32
+    ensures { λ r. ⌜ r ≡ crc32Of (now (bytes .entry)) ⌝ }
+{
+    if bytes.len() < LONG {
+        let t = byte_table();
+        by_bytes(&t, ONES, bytes) ^ ONES
+    } else {
+        let t = tables();
+        crc32_with(&t, bytes)
+    }
+}

@@ -1,0 +1,105 @@
+# shellcheck shell=bash
+# Sourced by the other scripts: where things are, how progress is shown, what must be at hand.
+set -euo pipefail
+cd "$(dirname "${BASH_SOURCE[0]}")/.."
+
+# The Rust's sources, never a part of this repository.
+NVRAM_RUST=$(realpath -m "${NVRAM_RUST:-../shared}")
+# The Rust's crates, as Debian's packages lay them out.
+DEBIAN_CRATES=${DEBIAN_CRATES:-/usr/share/cargo/registry}
+# The port, for the Rust side to link.
+FEQYONDIL_STATICLIB=$PWD/target/staticlib/libexports.a
+export NVRAM_RUST FEQYONDIL_STATICLIB
+
+# As host/Cargo.toml says.
+OLDEST_RUST=1.70
+
+say() { printf '== %s\n' "$*"; }
+warn() { printf '\n!! %s\n\n' "$*"; }
+fail() {
+    printf '!! %s\n' "$*" >&2
+    exit 1
+}
+
+# step WHAT COMMAND..: runs a long part, says what it is and how long it took.
+step() {
+    local what=$1 began=$SECONDS
+    shift
+    say "$what"
+    "$@" || fail "$what: FAILED after $((SECONDS - began)) s"
+    say "$what: done in $((SECONDS - began)) s"
+}
+
+need_kit() {
+    local recorded here
+    recorded=$(<rattle-kit.txt)
+    command -v rt >/dev/null ||
+        fail "missing: the Rattle kit; install $recorded and put its command rt on PATH"
+    here=$(rt version)
+    say "kit: $here"
+    [ "$here" = "$recorded" ] || warn "ANOTHER KIT than $recorded, which rattle-kit.txt records"
+}
+
+has_papers() {
+    local name
+    for name in lib v1v2 v3; do
+        [ -f "$NVRAM_RUST/src--apple-nvram--src--$name.rs.txt" ] || return 1
+    done
+}
+
+has_cargo() { command -v cargo >/dev/null && command -v rustc >/dev/null; }
+has_crate() { compgen -G "$DEBIAN_CRATES/$1-*" >/dev/null; }
+
+# What the comparison with the Rust lacks and how to get it, in one line; nothing if it is complete.
+judge_lacks() {
+    local version
+    if ! has_papers; then
+        echo "the Rust's sources; put shared/ beside the repository, or name their folder in NVRAM_RUST"
+    elif ! has_cargo; then
+        echo "cargo and rustc $OLDEST_RUST or later; install Debian's package cargo (Debian 12: cargo-web)"
+    elif version=$(rustc --version | cut -d' ' -f2) &&
+        ! printf '%s\n' "$OLDEST_RUST" "$version" | sort -VC; then
+        echo "rustc $OLDEST_RUST or later, and this is $version; on Debian 12 install the package cargo-web"
+    elif ! has_crate crc32fast || ! has_crate adler32; then
+        echo "the Rust's crates; install Debian's packages librust-crc32fast-dev and librust-adler32-dev"
+    fi
+}
+
+# Debian 12's own cargo is too old for v3.rs; its newer one is called cargo-web.
+cargo_package() {
+    if apt-cache show cargo-web >/dev/null 2>&1; then echo cargo-web; else echo cargo; fi
+}
+
+install_packages() {
+    apt-get update -qq || return 1
+    local packages=(librust-crc32fast-dev librust-adler32-dev)
+    has_cargo || packages+=("$(cargo_package)")
+    DEBIAN_FRONTEND=noninteractive apt-get install -qq -y "${packages[@]}" >/dev/null
+}
+
+# Installs what is missing where that is allowed; then `lacks` says what still is.
+set_up_judge() {
+    lacks=$(judge_lacks)
+    if [ -n "$lacks" ] && has_papers && [ "$(id -u)" = 0 ] && command -v apt-get >/dev/null; then
+        local began=$SECONDS
+        say "installing Debian's packages"
+        install_packages || say "installing Debian's packages: failed"
+        say "installing Debian's packages: ended after $((SECONDS - began)) s"
+        lacks=$(judge_lacks)
+    fi
+    [ -z "$lacks" ]
+}
+
+# cargo in host/, offline, with Debian's crates in place of the registry.
+cargo_host() {
+    local verb=$1
+    shift
+    (cd host && cargo "$verb" --offline --quiet --release \
+        --config 'source.crates-io.replace-with="debian"' \
+        --config "source.debian.directory=\"$DEBIAN_CRATES\"" "$@")
+}
+
+build_judge() {
+    step "proving the exports and making their static library" rt staticlib exports
+    step "building the oracle and the judge" cargo_host build
+}
