@@ -12,13 +12,13 @@ use Rattle.crc32.specs.Crc32.{bitSteps, byteSteps, crc32Of, Bytes}
 use Rattle.crc32.specs.Table.{IsTables, entry, byBytes, shares, block, blocks, byBlocks, crc32By}
 use Rattle.crc32.proofs.Linear.{xor-assoc, xor-cancel, byte-step, share, steps-append, byte-steps-lt}
 
-bytes-take : (n : ℕ) (l : List ℕ) → Bytes l → Bytes (take n l)
+pub bytes-take : (n : ℕ) (l : List ℕ) → Bytes l → Bytes (take n l)
 bytes-take zero l k i = omega arith
 bytes-take (suc n) [] k i = k i
 bytes-take (suc n) (x ∷ l) k zero = k 0
 bytes-take (suc n) (x ∷ l) k (suc i) = bytes-take n l (λ j. k (suc j)) i
 
-bytes-drop : (n : ℕ) (l : List ℕ) → Bytes l → Bytes (drop n l)
+pub bytes-drop : (n : ℕ) (l : List ℕ) → Bytes l → Bytes (drop n l)
 bytes-drop n l k i = rw (getD-drop n l i 0) (k (n + i))
 
 module _ {n : ℕ} {t : List ℕ} (is : IsTables n t) where

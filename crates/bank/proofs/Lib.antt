@@ -1,0 +1,14 @@
+pub mod NumberLaws
+pub mod WalkLaws
+pub mod LengthLaws
+pub mod HeaderLaws
+pub mod RecordBack
+pub mod BankBack
+pub mod Normal
+pub mod ReadFine
+pub mod ReadBank
+pub mod PartitionLaws
+pub mod LeafLaws
+pub mod NormalizeLaws
+pub mod WriteLaws
+pub mod SerializeLaws

@@ -1,0 +1,39 @@
+-- Stored numbers are read back, and what is read behind a list is read in what follows it.
+use Prim.Native.Nat.{ℕ, _+_, _*_, _/_, _%_, _<_}
+use mathlib.Core.Path.{_≡_, refl}
+use mathlib.Core.List.{List, _++_}
+use native.Mathlib.Nat.{add-assoc}
+use native.Mathlib.Omega.{arith}
+use lib.ListN.{length, getD, drop}
+use lib.Seq.{getD-append-add, drop-append-add}
+use Rattle.crc32.specs.Crc32.{Bytes}
+use Rattle.bank.specs.Number.{u32At, le32}
+
+pub length-le32 : (n : ℕ) → length (le32 n) ≡ 4
+unfolding le32
+length-le32 n = refl
+
+-- the sum of a number's four bytes
+pub u32-sum : (n : ℕ) → n < 4294967296
+    → n % 256 + 256 * (n / 256 % 256) + 65536 * (n / 256 / 256 % 256) + 16777216 * (n / 256 / 256 / 256 % 256) ≡ n
+u32-sum n h = omega arith
+
+pub u32-back : (n : ℕ) (q : List ℕ) → n < 4294967296 → u32At (le32 n ++ q) 0 ≡ n
+unfolding u32At le32
+u32-back n q h = u32-sum n h
+
+pub past-drop : (p q : List ℕ) (n k : ℕ) → length p ≡ n → drop (n + k) (p ++ q) ≡ drop k q
+past-drop p q n k e = rw e at (drop-append-add p q k)
+
+past-get : (p q : List ℕ) (n k : ℕ) → length p ≡ n → getD (p ++ q) (n + k) 0 ≡ getD q k 0
+past-get p q n k e = rw e at (getD-append-add p q k 0)
+
+pub past-u32 : (p q : List ℕ) (n k : ℕ) → length p ≡ n → u32At (p ++ q) (n + k) ≡ u32At q k
+unfolding u32At
+past-u32 p q n k e =
+    simp (add-assoc, past-get p q n k e, past-get p q n (k + 1) e, past-get p q n (k + 2) e, past-get p q n (k + 3) e)
+
+-- a number of four bytes
+pub u32-lt : (s : List ℕ) (i : ℕ) → Bytes s → u32At s i < 4294967296
+unfolding u32At
+u32-lt s i k = omega (arith, k i, k (i + 1), k (i + 2), k (i + 3))

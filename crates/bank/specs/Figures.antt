@@ -1,0 +1,27 @@
+-- Figures of a bank (01, 'A commit, from the entry down').
+use Prim.Native.Nat.{ℕ, _+_}
+use mathlib.Core.List.{List, [], _∷_}
+use mathlib.Core.Bool.{Bool, _&&_, cond}
+use Rattle.buffers.specs.Bytes.{eqBytes}
+use Rattle.bank.specs.Record.{Record, live, sizes, systemGuid, commonGuid}
+use Rattle.bank.specs.Bank.{Bank}
+
+-- those records for which a test holds, in order
+unfoldable pub select : (Record → Bool) → List Record → List Record
+select p [] = []
+select p (r ∷ rs) = cond (p r) (r ∷ select p rs) (select p rs)
+
+-- 24 plus all record sizes, dead ones too
+unfoldable pub total : Bank → ℕ
+total b = 24 + sizes (b .records)
+
+-- 24 plus the live records' sizes
+unfoldable pub liveTotal : Bank → ℕ
+liveTotal b = 24 + sizes (select live (b .records))
+
+-- live system records in sum, and common ones; a third GUID counts in neither
+unfoldable pub systemUsed : Bank → ℕ
+systemUsed b = sizes (select (λ r. live r && eqBytes (r .guid) systemGuid) (b .records))
+
+unfoldable pub commonUsed : Bank → ℕ
+commonUsed b = sizes (select (λ r. live r && eqBytes (r .guid) commonGuid) (b .records))

@@ -1,0 +1,9 @@
+pub mod Number
+pub mod Header
+pub mod Record
+pub mod Bank
+pub mod Read
+pub mod Write
+pub mod Figures
+pub mod WellFormed
+pub mod Answer

@@ -1,0 +1,32 @@
+-- What the operations on byte slices compute, by recursion on the list.
+use Prim.Native.Nat.{ℕ, suc}
+use mathlib.Core.List.{List, [], _∷_, _++_}
+use mathlib.Core.Bool.{Bool, true, false, _&&_, _||_, cond}
+use lib.Dec.{eqb}
+use lib.ListN.{length, take, drop}
+
+-- each byte is 0xFF
+unfoldable pub allFF : List ℕ → Bool
+allFF [] = true
+allFF (x ∷ s) = eqb x 255 && allFF s
+
+-- each byte is 0 or 0xFF (01, 'Bank and record')
+unfoldable pub allBlank : List ℕ → Bool
+allBlank [] = true
+allBlank (x ∷ s) = (eqb x 0 || eqb x 255) && allBlank s
+
+-- how many bytes 0xFF stand in front
+unfoldable pub countFF : List ℕ → ℕ
+countFF [] = 0
+countFF (x ∷ s) = cond (eqb x 255) (suc (countFF s)) 0
+
+-- the same bytes, and as many
+unfoldable pub eqBytes : List ℕ → List ℕ → Bool
+eqBytes [] [] = true
+eqBytes [] (y ∷ b) = false
+eqBytes (x ∷ a) [] = false
+eqBytes (x ∷ a) (y ∷ b) = eqb x y && eqBytes a b
+
+-- `dst` with `src` over its front, as far as `dst` goes
+unfoldable pub onto : List ℕ → List ℕ → List ℕ
+onto src dst = take (length dst) src ++ drop (length src) dst
