@@ -1,6 +1,6 @@
 # The main job: a program of crates/ and a sample for its standard input.
-PROGRAM = checksum
-SAMPLE = samples/check.txt
+PROGRAM = banklist
+SAMPLE = samples/bank.bin
 
 .NOTPARALLEL:
 .PHONY: run test differ bench clean

@@ -12,3 +12,4 @@ pub mod LeafLaws
 pub mod NormalizeLaws
 pub mod WriteLaws
 pub mod SerializeLaws
+pub mod IgnoreLaws

@@ -1,5 +1,4 @@
 -- CRC-32 of IEEE 802.3, bit by bit (01, 'Bank and record'): reflected polynomial 0xEDB88320, start and final exclusive-or 0xFFFFFFFF.
-use mathlib.Core.Path.{_≡_, refl}
 use mathlib.Core.List.{List, [], _∷_}
 use Prim.Native.Nat.{ℕ, zero, suc, _/_, _%_, _<_}
 use lib.ListN.{getD}
@@ -33,8 +32,3 @@ byteSteps c (b ∷ bs) = byteSteps (byteStep c b) bs
 
 unfoldable pub crc32Of : List ℕ → ℕ
 crc32Of bs = bitXor (byteSteps 0xFFFFFFFF bs) 0xFFFFFFFF
-
--- P8 of 01: the check value of `123456789`, and nothing
-pub p8 : (crc32Of (0x31 ∷ 0x32 ∷ 0x33 ∷ 0x34 ∷ 0x35 ∷ 0x36 ∷ 0x37 ∷ 0x38 ∷ 0x39 ∷ []) ≡ 0xCBF43926) × (crc32Of [] ≡ 0)
-unfolding crc32Of byteSteps byteStep bitSteps bitStep polyIf
-p8 = (refl, refl)

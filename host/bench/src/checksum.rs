@@ -71,7 +71,7 @@ fn contender<'a>(name: &'static str, call: &'a dyn Fn(&[u8]) -> u32) -> Contende
 }
 
 /// crc32fast without SIMD, by the constructor that its own benchmarks use.
-fn scalar(data: &[u8]) -> u32 {
+pub fn scalar(data: &[u8]) -> u32 {
     let mut hasher = crc32fast::Hasher::internal_new_baseline(0, 0);
     hasher.update(data);
     hasher.finalize()

@@ -4,6 +4,7 @@
 mod bytewise;
 mod checksum;
 mod measure;
+mod partition;
 
 use std::env;
 use std::process::ExitCode;
@@ -36,5 +37,6 @@ fn main() -> ExitCode {
         effort.batch.as_millis()
     );
     checksum::run(effort);
+    partition::run(effort);
     ExitCode::SUCCESS
 }

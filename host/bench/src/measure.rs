@@ -36,7 +36,25 @@ impl Figures {
 
     /// This one's time over the other's, round by round.
     pub fn over(&self, other: &Figures) -> Figures {
-        Figures(self.0.iter().zip(&other.0).map(|(a, b)| a / b).collect())
+        self.with(other, |a, b| a / b)
+    }
+
+    pub fn plus(&self, other: &Figures) -> Figures {
+        self.with(other, |a, b| a + b)
+    }
+
+    pub fn minus(&self, other: &Figures) -> Figures {
+        self.with(other, |a, b| a - b)
+    }
+
+    fn with(&self, other: &Figures, join: impl Fn(f64, f64) -> f64) -> Figures {
+        Figures(
+            self.0
+                .iter()
+                .zip(&other.0)
+                .map(|(a, b)| join(*a, *b))
+                .collect(),
+        )
     }
 }
 
@@ -94,6 +112,7 @@ mod tests {
         );
         let ratio = figures.over(&Figures(vec![1.0, 1.0, 4.0]));
         assert_eq!(ratio.median(), 1.0);
+        assert_eq!(figures.plus(&ratio).minus(&ratio).median(), 2.0);
     }
 
     #[test]

@@ -4,8 +4,8 @@
 
 mod checksum;
 mod compare;
-mod image;
 mod opening;
+mod partition;
 mod rng;
 mod shrink;
 
@@ -57,7 +57,8 @@ fn main() -> ExitCode {
 fn run(mode: Mode, seed: u64) -> Result<u64, String> {
     opening::run()?;
     let mut rng = rng::Rng::new(seed);
-    checksum::run(mode, &mut rng).map_err(|difference| difference.to_string())
+    let sums = checksum::run(mode, &mut rng).map_err(|difference| difference.to_string())?;
+    Ok(sums + partition::run(mode, &mut rng)?)
 }
 
 fn arguments(mut words: impl Iterator<Item = String>) -> Option<(Mode, u64)> {

@@ -1,13 +1,12 @@
 //! The oracle is there and answers: it opens a bank made here and finds its record.
 
+use image::{Header, Record};
 use oracle::{v3, Nvram, VarType};
-
-use crate::image;
 
 /// Fails with a sentence where the oracle does not read what was written.
 pub fn run() -> Result<(), String> {
     let (key, value) = (b"rate", b"123456789");
-    let bank = image::one_record(5, key, value);
+    let bank = image::bank(&Header::default(), &[Record::live(key, value)]);
     let mut store = v3::Nvram::parse(&bank).map_err(|e| format!("the oracle refused it: {e:?}"))?;
     let active = store.active_part_mut();
     let found = active.get_variable(key, VarType::System).map(|v| v.value());

@@ -20,6 +20,11 @@ impl Rng {
         (self.next() % limit as u64) as usize
     }
 
+    /// One of `some`, which are not none.
+    pub fn pick<T: Copy>(&mut self, some: &[T]) -> T {
+        some[self.below(some.len())]
+    }
+
     pub fn bytes(&mut self, len: usize) -> Vec<u8> {
         let mut out = Vec::with_capacity(len + 8);
         while out.len() < len {

@@ -1,8 +1,12 @@
 //! The port's exports as safe functions.
 //!
-//! This crate alone declares them and alone is `unsafe`. A slice of Rattle is
-//! two C parameters, a pointer and a length; a reference to an array is one
-//! pointer.
+//! This crate alone declares them, and what is `unsafe` about them stays in it.
+//! A slice of Rattle is two C parameters, a pointer and a length; a reference
+//! to an array is one pointer.
+
+mod partition;
+
+pub use partition::{partition_parse, partition_serialize, Partition, Slot};
 
 /// Entries of the checksum's tables: 16 rows of 256.
 const TABLE_ENTRIES: usize = 4096;

@@ -1,0 +1,70 @@
+-- The bench cases of 01 that are marked P, over the definitions: one table, one theorem. Each row computes some numbers and says what they are.
+use Prim.Native.Nat.{ℕ, _+_}
+use mathlib.Core.Path.{_≡_, refl}
+use mathlib.Core.List.{List, [], _∷_, _++_}
+use lib.ListN.{length, replicate}
+use Rattle.crc32.specs.Crc32.{polyIf, bitStep, bitSteps, byteStep, byteSteps, crc32Of}
+use Rattle.buffers.specs.Bytes.{allFF, allBlank, countFF, eqBytes}
+use Rattle.bank.specs.declared.header.StoreHeader.{StoreHeader}
+use Rattle.bank.specs.Number.{u16At, u32At, le32}
+use Rattle.bank.specs.Header.{headerBytes, headerOf, signed, readHeader}
+use Rattle.bank.specs.Record.{Record, sizeOf, sizes, deletedState, varHeaderBytes, recordBytes, recordOf, commonGuid}
+use Rattle.bank.specs.Bank.{Bank, Slot, empty, invalid, valid, padded}
+use Rattle.bank.specs.Read.{found, after, turn, walk, walkFrom, usableAt, slotOf, erasedSlot, afterHead, readBank}
+use Rattle.bank.specs.Figures.{total}
+
+pub record Row : Type 0 where
+  pub got : List ℕ
+  pub want : List ℕ
+
+infix 1 _is_
+abbrev _is_ : List ℕ → List ℕ → Row
+got is want = record { got = got; want = want }
+
+-- `123456789`
+abbrev digits : List ℕ
+digits = 0x31 ∷ 0x32 ∷ 0x33 ∷ 0x34 ∷ 0x35 ∷ 0x36 ∷ 0x37 ∷ 0x38 ∷ 0x39 ∷ []
+
+-- a live common record
+abbrev live : List ℕ → List ℕ → Record
+live key value = record { state = 0x7F; attributes = 0; guid = commonGuid; key = key; value = value }
+
+abbrev header : ℕ → ℕ → StoreHeader
+header size generation =
+    record { size = size; generation = generation; state = 0; flags = 0; «system_size» = 8192; «common_size» = 8192 }
+
+-- 65,536 bytes: a header of generation 5, some bytes, and 0xFF
+abbrev bank : ℕ → List ℕ → List ℕ
+bank size s = padded 65536 (headerBytes (header size 5) ++ s)
+
+-- a slot as numbers: of a Valid one total, usable and how many records
+unfoldable pub figures : Slot → List ℕ
+figures empty = []
+figures invalid = []
+figures (valid b) = total b ∷ b .usable ∷ length (b .records) ∷ []
+
+unfoldable pub table : List Row
+table =
+    -- P2 empty key and value: size 37. P3 key `a`, no value: 38
+    (sizeOf (live [] []) ∷ [] is 37 ∷ [])
+    ∷ (sizeOf (live (0x61 ∷ []) []) ∷ [] is 38 ∷ [])
+    -- P4 size 60: no record is looked at. P5 size 61: one of 37 fits
+    ∷ (figures (readBank (bank 60 (recordBytes (live [] [])))) is 24 ∷ 60 ∷ 0 ∷ [])
+    ∷ (figures (readBank (bank 61 (recordBytes (live [] [])))) is 61 ∷ 61 ∷ 1 ∷ [])
+    -- P8 CRC of `123456789`, and of nothing
+    ∷ (crc32Of digits ∷ [] is 0xCBF43926 ∷ [])
+    ∷ (crc32Of [] ∷ [] is 0 ∷ [])
+    -- P9 removing state 0x7F gives 0x7C; 0x7E stays
+    ∷ (deletedState 0x7F ∷ deletedState 0x7E ∷ [] is 0x7C ∷ 0x7E ∷ [])
+    -- P11 36 zero bytes, then 0xFF: blank. P12 36 bytes 0xFF, then 0: usable = total + 36
+    ∷ (figures (readBank (bank 65536 (replicate 36 0))) is 24 ∷ 65536 ∷ 0 ∷ [])
+    ∷ (figures (readBank (bank 65536 (replicate 36 255 ++ (0 ∷ [])))) is 24 ∷ (24 + 36) ∷ 0 ∷ [])
+    ∷ []
+
+abbrev pub Holds : List Row → Type 0
+Holds [] = Unit {0}
+Holds (r ∷ rs) = (r .got ≡ r .want) × Holds rs
+
+pub cases : Holds table
+unfolding table figures crc32Of byteSteps byteStep bitSteps bitStep polyIf allFF allBlank countFF eqBytes u16At u32At le32 headerBytes headerOf signed readHeader sizeOf sizes deletedState varHeaderBytes recordBytes recordOf padded found after turn walk walkFrom usableAt slotOf erasedSlot afterHead readBank total
+cases = (refl, (refl, (refl, (refl, (refl, (refl, (refl, (refl, (refl, tt)))))))))

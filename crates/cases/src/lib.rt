@@ -1,0 +1,1 @@
+// The cases that 01 marks to be proved, as a theorem of specs/Cases.antt. No code.

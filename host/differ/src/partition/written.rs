@@ -1,0 +1,88 @@
+//! Reads a bank as it was written, by offsets alone: its length is known, and every
+//! byte that has no say must have its fixed value.
+
+use image::{is_erased, number, HEADER, RECORD};
+
+use super::view::{Header, Record};
+
+/// The header and the records in the first `total` bytes; after them all is 0xFF.
+pub fn read(part: &[u8], total: usize) -> Result<(Header, Vec<Record<'_>>), String> {
+    let used = part.get(..total).ok_or("more is used than was written")?;
+    if !is_erased(&part[total..]) {
+        return Err("a byte behind the records is not 0xFF".to_string());
+    }
+    let header = header(used).ok_or("no header was written")?;
+    let mut records = Vec::new();
+    let mut at = HEADER;
+    while at < total {
+        let wrong = || format!("no record was written at {at}");
+        let (record, len) = record(&used[at..]).ok_or_else(wrong)?;
+        records.push(record);
+        at += len;
+    }
+    Ok((header, records))
+}
+
+fn header(used: &[u8]) -> Option<Header> {
+    let head = used.get(..HEADER)?;
+    let fixed = &head[..4] == b"3VVN" && head[14..16] == [1, 0];
+    fixed.then(|| Header {
+        size: number(head, 4),
+        generation: number(head, 8),
+        state: head[12],
+        flags: head[13],
+        system_limit: number(head, 16),
+        common_limit: number(head, 20),
+    })
+}
+
+fn record(rest: &[u8]) -> Option<(Record<'_>, usize)> {
+    let head = rest.get(..RECORD)?;
+    let name = number(head, 8) as usize;
+    let len = RECORD + name + number(head, 12) as usize;
+    let (name, value) = rest.get(RECORD..len)?.split_at(name);
+    let (closing, key) = name.split_last()?;
+    let fixed = head[..2] == [0xAA, 0x55] && (head[3], *closing) == (0, 0);
+    let record = Record {
+        state: head[2],
+        attributes: number(head, 4),
+        guid: &head[16..32],
+        key,
+        value,
+        crc: number(head, 32),
+    };
+    fixed.then_some((record, len))
+}
+
+#[cfg(test)]
+mod tests {
+    use super::*;
+
+    fn bank(closing: u8) -> Vec<u8> {
+        let record = image::Record {
+            closing,
+            ..image::Record::live(b"rate", b"123456789")
+        };
+        image::bank(&image::Header::default(), &[record])
+    }
+
+    #[test]
+    fn a_written_bank_is_read() {
+        let bank = bank(0);
+        let (header, records) = read(&bank, 74).unwrap();
+        assert_eq!((header.size, records.len()), (65_536, 1));
+        let (key, value) = (records[0].key, records[0].value);
+        assert_eq!((key, value), (&b"rate"[..], &b"123456789"[..]));
+    }
+
+    #[test]
+    fn what_is_not_as_written_is_refused() {
+        assert!(read(&bank(1), 74).is_err());
+        for total in [0, 24, 73, 75, 65_537] {
+            assert!(read(&bank(0), total).is_err(), "total {total}");
+        }
+        let mut reserved = bank(0);
+        reserved[15] = 1;
+        assert!(read(&reserved, 74).is_err());
+    }
+}

@@ -1,0 +1,148 @@
+//! Banks made from the layout's description, by no code of either side.
+
+/// Bytes of a bank.
+pub const BANK: usize = 65_536;
+/// Bytes of a bank's header.
+pub const HEADER: usize = 24;
+/// Bytes of a record before its name.
+pub const RECORD: usize = 36;
+
+pub const SYSTEM_GUID: [u8; 16] = [
+    0x40, 0xA0, 0xDD, 0xD2, 0x77, 0xF8, 0x43, 0x92, 0xB4, 0xA3, 0x1E, 0x73, 0x04, 0x20, 0x65, 0x16,
+];
+pub const COMMON_GUID: [u8; 16] = [
+    0x7C, 0x43, 0x61, 0x10, 0xAB, 0x2A, 0x4B, 0xBB, 0xA8, 0x80, 0xFE, 0x41, 0x99, 0x5C, 0x9F, 0x82,
+];
+
+/// A bank's header of good signature; by default a sound one of a whole bank.
+#[derive(Clone)]
+pub struct Header {
+    pub size: u32,
+    pub generation: u32,
+    pub state: u8,
+    pub flags: u8,
+    pub version: u8,
+    pub reserved: u8,
+    pub system_limit: u32,
+    pub common_limit: u32,
+}
+
+impl Default for Header {
+    fn default() -> Self {
+        Header {
+            size: BANK as u32,
+            generation: 1,
+            state: 0xFE,
+            flags: 0x5A,
+            version: 1,
+            reserved: 0,
+            system_limit: 8192,
+            common_limit: 8192,
+        }
+    }
+}
+
+impl Header {
+    pub fn bytes(&self) -> Vec<u8> {
+        let mut out = b"3VVN".to_vec();
+        out.extend(self.size.to_le_bytes());
+        out.extend(self.generation.to_le_bytes());
+        out.extend([self.state, self.flags, self.version, self.reserved]);
+        out.extend(self.system_limit.to_le_bytes());
+        out.extend(self.common_limit.to_le_bytes());
+        out
+    }
+}
+
+/// A record with its right lengths and checksum; by default a live system record, empty.
+#[derive(Clone)]
+pub struct Record {
+    pub state: u8,
+    pub reserved: u8,
+    pub attributes: u32,
+    pub guid: [u8; 16],
+    pub key: Vec<u8>,
+    pub closing: u8,
+    pub value: Vec<u8>,
+}
+
+impl Default for Record {
+    fn default() -> Self {
+        Record {
+            state: 0x7F,
+            reserved: 0,
+            attributes: 0,
+            guid: SYSTEM_GUID,
+            key: Vec::new(),
+            closing: 0,
+            value: Vec::new(),
+        }
+    }
+}
+
+impl Record {
+    /// A live system record.
+    pub fn live(key: &[u8], value: &[u8]) -> Self {
+        Record {
+            key: key.to_vec(),
+            value: value.to_vec(),
+            ..Record::default()
+        }
+    }
+
+    pub fn bytes(&self) -> Vec<u8> {
+        let mut out = 0x55AAu16.to_le_bytes().to_vec();
+        out.extend([self.state, self.reserved]);
+        out.extend(self.attributes.to_le_bytes());
+        out.extend((self.key.len() as u32 + 1).to_le_bytes());
+        out.extend((self.value.len() as u32).to_le_bytes());
+        out.extend(self.guid);
+        out.extend(crc32fast::hash(&self.value).to_le_bytes());
+        out.extend(&self.key);
+        out.push(self.closing);
+        out.extend(&self.value);
+        out
+    }
+}
+
+/// The bank of this header and these records, and 0xFF after them.
+pub fn bank(header: &Header, records: &[Record]) -> Vec<u8> {
+    let mut out = header.bytes();
+    records.iter().for_each(|r| out.extend(r.bytes()));
+    out.resize(BANK, 0xFF);
+    out
+}
+
+/// All bytes are 0xFF.
+pub fn is_erased(bytes: &[u8]) -> bool {
+    // A piece at a time, so that it is quick over a whole bank.
+    let both = |piece: &[u8]| piece.iter().fold(0xFF, |a, b| a & b);
+    bytes.chunks(64).all(|piece| both(piece) == 0xFF)
+}
+
+/// The little-endian number of four bytes at `at`.
+pub fn number(bytes: &[u8], at: usize) -> u32 {
+    let four = bytes[at..at + 4].try_into().expect("four bytes");
+    u32::from_le_bytes(four)
+}
+
+/// Puts a little-endian number of four bytes at `at`.
+pub fn put_number(bytes: &mut [u8], at: usize, number: u32) {
+    bytes[at..at + 4].copy_from_slice(&number.to_le_bytes());
+}
+
+#[cfg(test)]
+mod tests {
+    use super::*;
+
+    #[test]
+    fn a_bank_has_its_fields_at_their_places() {
+        let made = bank(&Header::default(), &[Record::live(b"rate", b"123456789")]);
+        assert_eq!((made.len(), &made[..4]), (BANK, &b"3VVN"[..]));
+        assert_eq!((number(&made, 4), made[14]), (65_536, 1));
+        assert_eq!((number(&made, 24 + 8), number(&made, 24 + 12)), (5, 9));
+        assert_eq!(number(&made, 24 + 32), 0xCBF4_3926);
+        assert_eq!(&made[60..74], b"rate\x00123456789");
+        assert!(is_erased(&made[74..]) && !is_erased(&made[73..]));
+    }
+}
