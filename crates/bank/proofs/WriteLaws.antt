@@ -34,7 +34,7 @@ pub record Headed (s : List ℕ) (h : StoreHeader) : Type 0 where
   pub signs : take 4 s ≡ signature
   pub version : getD s 14 0 ≡ 1
 
-headed : (s : List ℕ) (h : StoreHeader) → readHeader s ≡ Good h → Headed s h
+pub headed : (s : List ℕ) (h : StoreHeader) → readHeader s ≡ Good h → Headed s h
 unfolding readHeader signed
 headed s h e = go (leb 24 (length s)) (eqBytes (take 4 s) signature) (eqb (getD s 14 0) 1) (leb 24 (u32At s 4) && leb (u32At s 4) 65536) refl refl refl e
   where

@@ -9,9 +9,14 @@ use Rattle.bank.specs.declared.header.StoreHeader.{StoreHeader}
 use Rattle.bank.specs.Number.{u16At, u32At, le32}
 use Rattle.bank.specs.Header.{headerBytes, headerOf, signed, readHeader}
 use Rattle.bank.specs.Record.{Record, sizeOf, sizes, deletedState, varHeaderBytes, recordBytes, recordOf, commonGuid}
-use Rattle.bank.specs.Bank.{Bank, Slot, empty, invalid, valid, padded}
+use Rattle.bank.specs.Bank.{Bank, Slot, empty, invalid, valid, bankSize, padded}
 use Rattle.bank.specs.Read.{found, after, turn, walk, walkFrom, usableAt, slotOf, erasedSlot, afterHead, readBank}
 use Rattle.bank.specs.Figures.{total}
+use Rattle.bank.specs.declared.variable.VarType.the-variants.{Common}
+use Rattle.nvram.specs.Part.{partSize}
+use Rattle.nvram.specs.Book.{Book}
+use Rattle.nvram.specs.Opening.{readSlots, activeFrom, anyValid, Opened, opened, refused, opening}
+use Rattle.nvram.specs.Call.{remove, Answer, edited, looked, handed, removeIn, step}
 
 pub record Row : Type 0 where
   pub got : List ℕ
@@ -33,9 +38,12 @@ abbrev header : ℕ → ℕ → StoreHeader
 header size generation =
     record { size = size; generation = generation; state = 0; flags = 0; «system_size» = 8192; «common_size» = 8192 }
 
--- 65,536 bytes: a header of generation 5, some bytes, and 0xFF
+-- 65,536 bytes: a header, some bytes, and 0xFF
 abbrev bank : ℕ → List ℕ → List ℕ
 bank size s = padded 65536 (headerBytes (header size 5) ++ s)
+
+abbrev blank : ℕ → List ℕ
+blank generation = padded 65536 (headerBytes (header 65536 generation))
 
 -- a slot as numbers: of a Valid one total, usable and how many records
 unfoldable pub figures : Slot → List ℕ
@@ -43,14 +51,37 @@ figures empty = []
 figures invalid = []
 figures (valid b) = total b ∷ b .usable ∷ length (b .records) ∷ []
 
+-- an opening as numbers: 0, n and active, or its refusal
+unfoldable pub begins : Opened → List ℕ
+begins (opened b) = 0 ∷ b .n ∷ b .active ∷ []
+begins (refused k) = k ∷ []
+
+unfoldable pub number : Answer → ℕ
+number (edited k) = k
+number (looked k f) = k
+number handed = 0
+
+-- what removing a key answers after an opening
+unfoldable pub afterwards : Opened → List ℕ
+afterwards (opened b) = number (step b (remove digits Common) .answer) ∷ []
+afterwards (refused k) = []
+
 unfoldable pub table : List Row
 table =
+    -- P1 65,535 bytes: 1. 131,071 bytes: one bank
+    (begins (opening (replicate 65535 255) 131072) is 1 ∷ [])
+    ∷ (begins (opening (blank 5 ++ replicate 65535 255) 131072) is 0 ∷ 1 ∷ 0 ∷ [])
     -- P2 empty key and value: size 37. P3 key `a`, no value: 38
-    (sizeOf (live [] []) ∷ [] is 37 ∷ [])
+    ∷ (sizeOf (live [] []) ∷ [] is 37 ∷ [])
     ∷ (sizeOf (live (0x61 ∷ []) []) ∷ [] is 38 ∷ [])
     -- P4 size 60: no record is looked at. P5 size 61: one of 37 fits
     ∷ (figures (readBank (bank 60 (recordBytes (live [] [])))) is 24 ∷ 60 ∷ 0 ∷ [])
     ∷ (figures (readBank (bank 61 (recordBytes (live [] [])))) is 61 ∷ 61 ∷ 1 ∷ [])
+    -- P6 generations 3, 5, 5: active 1
+    ∷ (begins (opening (blank 3 ++ (blank 5 ++ blank 5)) 393216) is 0 ∷ 3 ∷ 1 ∷ [])
+    -- P7 Invalid, then Valid with 0: opens, edits give 7
+    ∷ (begins (opening (replicate 65536 0 ++ blank 0) 262144) is 0 ∷ 2 ∷ 0 ∷ [])
+    ∷ (afterwards (opening (replicate 65536 0 ++ blank 0) 262144) is 7 ∷ [])
     -- P8 CRC of `123456789`, and of nothing
     ∷ (crc32Of digits ∷ [] is 0xCBF43926 ∷ [])
     ∷ (crc32Of [] ∷ [] is 0 ∷ [])
@@ -66,5 +97,5 @@ Holds [] = Unit {0}
 Holds (r ∷ rs) = (r .got ≡ r .want) × Holds rs
 
 pub cases : Holds table
-unfolding table figures crc32Of byteSteps byteStep bitSteps bitStep polyIf allFF allBlank countFF eqBytes u16At u32At le32 headerBytes headerOf signed readHeader sizeOf sizes deletedState varHeaderBytes recordBytes recordOf padded found after turn walk walkFrom usableAt slotOf erasedSlot afterHead readBank total
-cases = (refl, (refl, (refl, (refl, (refl, (refl, (refl, (refl, (refl, tt)))))))))
+unfolding table figures begins number afterwards opening readSlots activeFrom anyValid bankSize partSize step removeIn crc32Of byteSteps byteStep bitSteps bitStep polyIf allFF allBlank countFF eqBytes u16At u32At le32 headerBytes headerOf signed readHeader sizeOf sizes deletedState varHeaderBytes recordBytes recordOf padded found after turn walk walkFrom usableAt slotOf erasedSlot afterHead readBank total
+cases = (refl, (refl, (refl, (refl, (refl, (refl, (refl, (refl, (refl, (refl, (refl, (refl, (refl, (refl, tt))))))))))))))

@@ -1,0 +1,179 @@
+-- Inserts and removes on a sound state and work area, in the numbers that the code has.
+use Prim.Native.Nat.{ℕ, _+_, _*_, _-_, _≤_, _<_}
+use mathlib.Core.Path.{_≡_, refl, sym, ap, ap₂, _∙_}
+use mathlib.Core.List.{List, [], _∷_, _++_, append-assoc, append-nil}
+use native.Mathlib.Omega.{arith}
+use lib.ListN.{length, getD, set, replicate, length-append, length-replicate, replicate-append-replicate}
+use lib.Seq.{set-getD}
+use borrow.Author.Tests.{le-leb, lt-leb}
+use Rattle.crc32.specs.Crc32.{Bytes}
+use Rattle.bank.specs.declared.variable.VarType.{VarType}
+use Rattle.bank.specs.Record.{Record, sizeOf, sizes, recordBytes, recordsBytes}
+use Rattle.bank.specs.Bank.{Bank, valid}
+use Rattle.bank.specs.Figures.{total}
+use Rattle.bank.specs.Write.{over}
+use Rattle.bank.specs.WellFormed.{FineRecord, FineRecords}
+use Rattle.bank.proofs.LengthLaws.{length-record, length-records}
+use Rattle.nvram.specs.declared.state.Kind.the-variants.{Empty, Valid}
+use Rattle.nvram.specs.declared.state.Entry.{Entry}
+use Rattle.nvram.specs.declared.state.Nvram.{Nvram}
+use Rattle.nvram.specs.Edit.{removed, inserted, fresh}
+use Rattle.nvram.specs.Part.{partSize, entry, entryOf}
+use Rattle.nvram.specs.Book.{withActive, withRecords}
+use Rattle.nvram.specs.Layout.{layTable, layState, setEntry, layWork}
+use Rattle.nvram.specs.Call.{insert, remove, edited, stay, change, insertIn, removeIn, step}
+use Rattle.nvram.specs.Contract.{Does}
+use Rattle.nvram.proofs.RecordLists.{fine-removed, sizes-removed, fine-fresh, fine-append, records-append, sizes-append}
+use Rattle.nvram.proofs.SlotLaws.{part-size}
+use Rattle.nvram.proofs.LayoutLaws.{table-set}
+use Rattle.nvram.proofs.PutLaws.{over-mid, length-over, over-over}
+use Rattle.nvram.proofs.CallLaws.{does}
+use Rattle.nvram.proofs.ActiveLaws.{Sound, book, viewed, state-is, work-is, active-is, n-is, banks-are, in-slots, part-within, bank, bank-is, bank-fine, total-is, usable-is, total-high, front, rest, laidWith, front-length, laid-out, work-split}
+
+module _ {s : Nvram} {w : List ℕ} (g : Sound s w) (v : getD (s .banks) (s .active) (entry Empty 0 0) .kind ≡ Valid) where
+  -- the active entry, and where its records begin
+  abbrev pub now : Entry
+  now = getD (s .banks) (s .active) (entry Empty 0 0)
+
+  abbrev pub from : ℕ
+  from = s .active * 131072 + 24
+
+  abbrev rs : List Record
+  rs = bank g v .records
+
+  rs-fine : FineRecords rs
+  rs-fine = bank-fine g v .0 .records-fine
+
+  -- the state with another bank of this usable in the active slot
+  state-with : (k : Bank) (t u : ℕ) → t ≡ total k → u ≡ k .usable → setEntry s (s .active) (entry Valid t u) ≡ layState (withActive (book g) k) (s .tally)
+  unfolding entryOf
+  state-with k t u p q =
+      let e : set (s .banks) (s .active) (entry Valid t u) ≡ layTable (set (book g .slots) (book g .active) (valid k)) =
+      (λ i. set (banks-are g i) (active-is g i) (entry Valid (p i) (q i))) ∙ sym (table-set (book g .slots) (book g .active) (valid k) (in-slots g)) in
+      λ i. record { n = n-is g i; active = active-is g i; tally = s .tally; banks = e i }
+
+  module _ (key : List ℕ) (typ : VarType) where
+    abbrev less : List Record
+    less = removed key typ rs
+
+    less-fine : FineRecords less
+    less-fine = fine-removed key typ rs rs-fine
+
+    less-length : length (recordsBytes less) ≡ sizes rs
+    less-length = length-records less less-fine ∙ sizes-removed key typ rs
+
+    work-less : over from (recordsBytes less) w ≡ layWork (withActive (book g) (withRecords (bank g v) less)) w
+    unfolding layWork
+    work-less =
+        ap (over from (recordsBytes less)) (work-split g v)
+        ∙ over-mid (front g v) (recordsBytes rs) (recordsBytes less) (replicate (partSize - (24 + sizes rs)) 255 ++ rest g v) from (front-length g v) (length-records rs rs-fine ∙ sym less-length)
+        ∙ ap (laidWith g v (recordsBytes less)) (sym (sizes-removed key typ rs))
+        ∙ sym (laid-out g v (withRecords (bank g v) less) refl less-fine)
+
+    state-less : s ≡ layState (withActive (book g) (withRecords (bank g v) less)) (s .tally)
+    unfolding total
+    state-less =
+        let e : now ≡ entry Valid (now .total) (now .usable) = λ i. entry (v i) (now .total) (now .usable) in
+        let q : s .banks ≡ set (s .banks) (s .active) (entry Valid (now .total) (now .usable)) =
+        sym (set-getD (s .banks) (s .active) (entry Empty 0 0)) ∙ ap (set (s .banks) (s .active)) e in
+        (λ i. record { n = s .n; active = s .active; tally = s .tally; banks = q i })
+        ∙ state-with (withRecords (bank g v) less) (now .total) (now .usable) (total-is g v ∙ ap (λ (n : ℕ). 24 + n) (sym (sizes-removed key typ rs))) (usable-is g v)
+
+    pub does-remove : (w′ : List ℕ) → w′ ≡ over from (recordsBytes less) w → Does (remove key typ) s w (edited 0) [] s w′
+    unfolding step removeIn
+    does-remove w′ e =
+        does (remove key typ) s w (book g) (change (book g) (withRecords (bank g v) less)) (edited 0) [] s w′ (viewed g)
+        (ap (removeIn (book g) key typ) (bank-is g v))
+        (record { answer = refl; out = refl; state = state-less; work = e ∙ work-less })
+
+    module _ (value : List ℕ) where
+      abbrev new : Record
+      new = fresh key value typ
+
+      abbrev more : List Record
+      more = inserted key value typ rs
+
+      pub does-8 : 131072 < now .total + sizeOf new → Does (insert key value typ) s w (edited 8) [] s w
+      unfolding step insertIn total
+      does-8 h =
+          let m : partSize < 24 + sizes rs + sizeOf new = omega (arith, total-is g v, part-size) in
+          let q : insertIn (book g) key value typ (valid (bank g v)) ≡ stay (book g) (edited 8) = rw (lt-leb _ _ m) in
+          does (insert key value typ) s w (book g) (stay (book g) (edited 8)) (edited 8) [] s w (viewed g)
+          (ap (insertIn (book g) key value typ) (bank-is g v) ∙ q)
+          (record { answer = refl; out = refl; state = state-is g; work = work-is g })
+
+      module _ (kb : Bytes key) (vb : Bytes value) (room : now .total + sizeOf new ≤ 131072) where
+        new-fine : FineRecord new
+        unfolding sizeOf
+        new-fine = let r = room in fine-fresh key value typ kb vb (omega arith) (omega arith)
+
+        more-fine : FineRecords more
+        more-fine = fine-append less (new ∷ []) less-fine (new-fine, tt)
+
+        more-sizes : sizes more ≡ sizes rs + sizeOf new
+        unfolding sizes
+        more-sizes = sizes-append less (new ∷ []) ∙ omega (arith, sizes-removed key typ rs)
+
+        fits : 24 + sizes rs + sizeOf new ≤ partSize
+        fits = omega (arith, room, total-is g v, part-size)
+
+        -- the fresh record takes bytes that were 0xFF
+        work-old : w ≡ front g v ++ ((recordsBytes rs ++ replicate (sizeOf new) 255) ++ (replicate (partSize - (24 + sizes more)) 255 ++ rest g v))
+        work-old =
+            let n : partSize - (24 + sizes rs) ≡ sizeOf new + (partSize - (24 + sizes more)) = omega (arith, fits, more-sizes) in
+            let z : List ℕ = replicate (partSize - (24 + sizes more)) 255 in
+            work-split g v
+            ∙ ap (λ (l : List ℕ). front g v ++ (recordsBytes rs ++ (l ++ rest g v)))
+            (ap (λ (i : ℕ). replicate i 255) n ∙ sym (replicate-append-replicate (sizeOf new) (partSize - (24 + sizes more)) 255))
+            ∙ ap (λ (l : List ℕ). front g v ++ l)
+            (ap (λ (l : List ℕ). recordsBytes rs ++ l) (append-assoc (replicate (sizeOf new) 255) z (rest g v))
+            ∙ sym (append-assoc (recordsBytes rs) (replicate (sizeOf new) 255) (z ++ rest g v)))
+
+        more-bytes : recordsBytes more ≡ recordsBytes less ++ recordBytes new
+        unfolding recordsBytes
+        more-bytes = records-append less (new ∷ []) ∙ ap (λ (l : List ℕ). recordsBytes less ++ l) (append-nil (recordBytes new))
+
+        new-length : length (recordBytes new) ≡ sizeOf new
+        new-length = length-record new (new-fine .guid-long)
+
+        work-more : over from (recordsBytes less ++ recordBytes new) w ≡ layWork (withActive (book g) (withRecords (bank g v) more)) w
+        unfolding layWork
+        work-more =
+            let old : List ℕ = recordsBytes rs ++ replicate (sizeOf new) 255 in
+            let y : List ℕ = recordsBytes less ++ recordBytes new in
+            let l : length old ≡ length y =
+            length-append (recordsBytes rs) (replicate (sizeOf new) 255)
+            ∙ omega
+            (arith, length-records rs rs-fine, length-replicate {A = ℕ} (sizeOf new) 255, length-append (recordsBytes less) (recordBytes new), less-length, new-length) in
+            ap (over from y) work-old
+            ∙ over-mid (front g v) old y (replicate (partSize - (24 + sizes more)) 255 ++ rest g v) from (front-length g v) l
+            ∙ ap (λ (x : List ℕ). laidWith g v x (sizes more)) (sym more-bytes)
+            ∙ sym (laid-out g v (withRecords (bank g v) more) refl more-fine)
+
+        -- the fresh record has room behind the others
+        pub room-behind : (w₁ : List ℕ) → w₁ ≡ over from (recordsBytes less) w → s .active * 131072 + now .total + sizeOf new ≤ length w₁
+        room-behind w₁ p =
+            omega
+            (arith, ap length p, length-over from (recordsBytes less) w (omega (arith, part-within g, total-high g v, less-length)), part-within g, room)
+
+        -- the code's two writes
+        pub does-insert : (w₁ w₂ : List ℕ) (t : ℕ) (s′ : Nvram) → w₁ ≡ over from (recordsBytes less) w
+            → w₂ ≡ over (s .active * 131072 + now .total) (recordBytes new) w₁
+            → t ≡ now .total + sizeOf new
+            → s′ ≡ setEntry s (s .active) (entry Valid t (now .usable))
+            → Does (insert key value typ) s w (edited 0) [] s′ w₂
+        unfolding step insertIn total
+        does-insert w₁ w₂ t s′ p q r z =
+            let e : s .active * 131072 + now .total ≡ from + length (recordsBytes less) = omega (arith, total-is g v, less-length) in
+            let h : from + length (recordsBytes less) + length (recordBytes new) ≤ length w =
+            omega (arith, part-within g, room, total-is g v, less-length, new-length) in
+            let d : insertIn (book g) key value typ (valid (bank g v)) ≡ change (book g) (withRecords (bank g v) more) = rw (le-leb _ _ fits) in
+            does (insert key value typ) s w (book g) (change (book g) (withRecords (bank g v) more)) (edited 0) []
+            s′ w₂ (viewed g)
+            (ap (insertIn (book g) key value typ) (bank-is g v) ∙ d)
+            (record {
+              answer = refl;
+              out = refl;
+              state = z ∙ state-with (withRecords (bank g v) more) t (now .usable) (r ∙ omega (arith, total-is g v, more-sizes)) (usable-is g v);
+              work = q ∙ ap₂ (λ (i : ℕ) (x : List ℕ). over i (recordBytes new) x) e p ∙ over-over from (from + length (recordsBytes less)) (recordsBytes less) (recordBytes new) w refl h ∙ work-more;
+            })

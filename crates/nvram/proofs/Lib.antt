@@ -1,0 +1,16 @@
+pub mod RecordLaws
+pub mod RecordLists
+pub mod RecordSteps
+pub mod RecordWalk
+pub mod PutLaws
+pub mod AppendLaws
+pub mod SoundLaws
+pub mod SlotLaws
+pub mod LayoutLaws
+pub mod LoadLaws
+pub mod OpeningLaws
+pub mod CallLaws
+pub mod ActiveLaws
+pub mod EditLaws
+pub mod LookupLaws
+pub mod StepLaws

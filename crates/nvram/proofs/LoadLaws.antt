@@ -1,0 +1,266 @@
+-- Opening: what the code is told of a slot, and the loop that loads the banks.
+use Prim.Native.Nat.{ℕ, zero, suc, _+_, _-_, _*_, _≤_, _<_}
+use mathlib.Core.Path.{_≡_, refl, sym, ap, ap₂, _∙_, subst}
+use mathlib.Core.List.{List, [], _∷_, _++_, append-assoc, append-nil, map, map-append}
+use mathlib.Core.Bool.{Bool, true, false, cond}
+use native.Mathlib.Nat.{zero-mul, suc-mul, add-comm, sub-zero}
+use native.Mathlib.Numerals.{add-one}
+use native.Mathlib.Omega.{arith}
+use lib.Dec.{ltb}
+use lib.ListN.{length, set, take, drop, replicate, length-append, length-take, length-drop, length-map}
+use lib.Seq.{take-take, drop-drop, take-at, set-at, append-snoc, drop-append-add}
+use borrow.Author.Tests.{le-leb}
+use borrow.Rule.Slice.PartMut.{putMid, post-is}
+use Rattle.bank.specs.declared.partition.Partition.{Partition}
+use Rattle.bank.specs.declared.partition.Slot.{Slot as Parsed}
+use Rattle.bank.specs.declared.partition.Slot.the-variants as told
+use Rattle.bank.specs.Bank.{Slot, empty, invalid, valid, bankSize, partOf}
+use Rattle.bank.specs.Read.{readBank}
+use Rattle.bank.specs.Answer.{partitionOf, answer, parsed, serializedSlot, serializedPart}
+use Rattle.bank.proofs.PartitionLaws.{bank-size, parsed-long}
+use Rattle.bank.proofs.SerializeLaws.{slot-is}
+use Rattle.nvram.specs.declared.state.Kind.the-variants.{Empty, Invalid, Valid}
+use Rattle.nvram.specs.declared.state.Entry.{Entry}
+use Rattle.nvram.specs.Part.{partSize, entry, entryOf, FineSlot}
+use Rattle.nvram.specs.Layout.{layTable, layState, layParts, layWork}
+use Rattle.nvram.specs.Opening.{readSlots, activeFrom, isValid, bookOf}
+use Rattle.nvram.proofs.SlotLaws.{part-size}
+
+-- what the code reads off an answer is what the definitions say of the slot
+
+abbrev entryTold : Parsed → Entry
+entryTold told.Short = entry Invalid 0 0
+entryTold told.Empty = entry Empty 0 0
+entryTold told.Invalid = entry Invalid 0 0
+entryTold (told.Valid p) = entry Valid (p .«total_used») (p .«usable_size»)
+
+entry-told : (k : Slot) → entryTold (answer k) ≡ entryOf k
+unfolding answer entryOf partitionOf
+entry-told empty = refl
+entry-told invalid = refl
+entry-told (valid b) = refl
+
+pub entry-is : (slot x : Parsed) → slot ≡ x → (k : Slot) → slot ≡ answer k → entryTold x ≡ entryOf k
+entry-is slot x g k e = ap entryTold (sym g ∙ e) ∙ entry-told k
+
+abbrev validTold : Parsed → Bool
+validTold told.Short = false
+validTold told.Empty = false
+validTold told.Invalid = false
+validTold (told.Valid p) = true
+
+valid-told : (k : Slot) → validTold (answer k) ≡ isValid k
+unfolding answer
+valid-told empty = refl
+valid-told invalid = refl
+valid-told (valid b) = refl
+
+abbrev pub activeTold : ℕ → ℕ → ℕ → List Slot → Parsed → ℕ
+activeTold i best active rest told.Short = activeFrom (suc i) best active rest
+activeTold i best active rest told.Empty = activeFrom (suc i) best active rest
+activeTold i best active rest told.Invalid = activeFrom (suc i) best active rest
+activeTold i best active rest (told.Valid p) =
+    cond (ltb best (p .header .generation)) (activeFrom (suc i) (p .header .generation) i rest) (activeFrom (suc i) best active rest)
+
+active-told : (i best active : ℕ) (rest : List Slot) (k : Slot) → activeFrom i best active (k ∷ rest) ≡ activeTold i best active rest (answer k)
+unfolding answer activeFrom partitionOf
+active-told i best active rest empty = refl
+active-told i best active rest invalid = refl
+active-told i best active rest (valid b) = refl
+
+pub active-is : (i best active : ℕ) (slot x : Parsed) → slot ≡ x → (k : Slot) (rest : List Slot) → slot ≡ answer k
+    → activeFrom i best active (k ∷ rest) ≡ activeTold i best active rest x
+active-is i best active slot x g k rest e = active-told i best active rest k ∙ ap (activeTold i best active rest) (sym e ∙ g)
+
+abbrev FitsTold : Parsed → Type 0
+FitsTold told.Short = Unit {0}
+FitsTold told.Empty = Unit {0}
+FitsTold told.Invalid = Unit {0}
+FitsTold (told.Valid p) = (p .«total_used» ≤ 131072) × (p .«usable_size» ≤ 65536)
+
+fits-told : (k : Slot) → FineSlot k → FitsTold (answer k)
+unfolding answer partitionOf
+fits-told empty f = tt
+fits-told invalid f = tt
+fits-told (valid b) f =
+    let u = f .0 .usable-high in
+    let s = f .0 .header-fine .size-high in
+    (omega (arith, f .1, part-size), omega arith)
+
+pub cast-fits : (slot : Parsed) (p : Partition) → (k : Slot) × (slot ≡ answer k) × FineSlot k → slot ≡ told.Valid p
+    → (p .«total_used» ≤ 131072) × (p .«usable_size» ≤ 65536)
+cast-fits slot p (k, e, f) g = subst FitsTold (sym e ∙ g) (fits-told k f)
+
+-- bank i of an image
+abbrev pub bankAt : List ℕ → ℕ → Slot
+bankAt image i = readBank (take bankSize (drop (i * bankSize) image))
+
+module _ (image : List ℕ) (i a m : ℕ) (is : a ≡ i * 65536) (long : m ≡ 65536) (within : a + m ≤ length image) where
+  bank-start : a ≡ i * bankSize
+  bank-start = is ∙ ap (λ (k : ℕ). i * k) (sym bank-size)
+
+  lent : length (take m (drop a image)) ≡ m
+  lent = simp (length-take, length-drop) (omega arith)
+
+  bank-is : readBank (take bankSize (take m (drop a image))) ≡ bankAt image i
+  bank-is =
+      let h : bankSize ≤ m = omega (arith, bank-size) in
+      ap readBank (take-take bankSize m (drop a image) h ∙ ap (λ (k : ℕ). take bankSize (drop k image)) bank-start)
+
+  parsed-bank : parsed (take m (drop a image)) ≡ answer (bankAt image i)
+  parsed-bank = sym (parsed-long (take m (drop a image)) bankSize bank-size (omega (arith, lent))) ∙ ap answer bank-is
+
+  pub valid-is : (slot x : Parsed) → slot ≡ parsed (take m (drop a image)) → slot ≡ x → validTold x ≡ isValid (bankAt image i)
+  valid-is slot x e g = ap validTold (sym g ∙ e ∙ parsed-bank) ∙ valid-told (bankAt image i)
+
+  module _ (out : List ℕ) (room : length out ≡ 131072) where
+    pub serialized-slot : serializedSlot (take m (drop a image)) out ≡ answer (bankAt image i)
+    serialized-slot =
+        sym (slot-is (take m (drop a image)) out (omega arith) (parsed (take m (drop a image))) refl) ∙ parsed-bank
+
+    pub serialized-part : serializedPart (take m (drop a image)) out ≡ partOf partSize (bankAt image i)
+    unfolding serializedPart
+    serialized-part =
+        let h : bankSize ≤ length out = omega (arith, bank-size) in
+        let k : bankSize ≤ length (take m (drop a image)) = omega (arith, bank-size, lent) in
+        let n : length out ≡ partSize = omega (arith, part-size) in
+        simp (le-leb _ _ h, le-leb _ _ k) (ap₂ partOf n bank-is)
+
+-- a part that was lent and is back
+pub part-back : (w x y : List ℕ) (i a e : ℕ) → a ≡ i * 131072 → e ≡ a + 131072 → x ≡ y
+    → putMid a (e - a) w x ≡ take (i * partSize) w ++ (y ++ drop ((i + 1) * partSize) w)
+part-back w x y i a e p q r =
+    let s : a ≡ i * partSize = p ∙ ap (λ (k : ℕ). i * k) (sym part-size) in
+    let t : e ≡ (i + 1) * partSize = q ∙ omega arith ∙ ap (λ (k : ℕ). (i + 1) * k) (sym part-size) in
+    ap₂ (λ (u v : List ℕ). take a w ++ (u ++ v)) r (post-is a e w (omega arith) ∙ ap (λ (k : ℕ). drop k w) t)
+    ∙ ap (λ (k : ℕ). take k w ++ (y ++ drop ((i + 1) * partSize) w)) s
+
+-- one bank more
+
+next : (i k : ℕ) → (i + 1) * k ≡ i * k + k
+next i k = ap (λ (j : ℕ). j * k) (add-one i) ∙ suc-mul i k
+
+pub slots-here : (image : List ℕ) (n i : ℕ) → i < n
+    → readSlots (n - i) (drop (i * bankSize) image) ≡ bankAt image i ∷ readSlots (n - (i + 1)) (drop ((i + 1) * bankSize) image)
+unfolding readSlots
+slots-here image n i h =
+    let m : n - i ≡ suc (n - (i + 1)) = omega arith in
+    rw m
+    (ap (λ (l : List ℕ). bankAt image i ∷ readSlots (n - (i + 1)) l)
+    (drop-drop bankSize (i * bankSize) image ∙ ap (λ (k : ℕ). drop k image) (sym (next i bankSize))))
+
+slots-more : (image : List ℕ) (i : ℕ) → readSlots (suc i) image ≡ readSlots i image ++ (bankAt image i ∷ [])
+unfolding readSlots
+slots-more image zero = ap (λ (k : ℕ). readBank (take bankSize (drop k image)) ∷ []) (sym (zero-mul bankSize))
+slots-more image (suc i) =
+    ap (λ (ss : List Slot). readBank (take bankSize image) ∷ ss)
+    (slots-more (drop bankSize image) i
+    ∙ ap (λ (l : List ℕ). readSlots i (drop bankSize image) ++ (readBank (take bankSize l) ∷ []))
+    (drop-drop (i * bankSize) bankSize image ∙ ap (λ (k : ℕ). drop k image) (add-comm bankSize (i * bankSize) ∙ sym (suc-mul i bankSize))))
+
+pub slots-long : (n : ℕ) (image : List ℕ) → length (readSlots n image) ≡ n
+unfolding readSlots
+slots-long zero image = refl
+slots-long (suc n) image = ap suc (slots-long n (drop bankSize image))
+
+table-more : (ss : List Slot) (k : Slot) (i : ℕ) → length ss ≡ i → i < 16 → set (layTable ss) i (entryOf k) ≡ layTable (ss ++ (k ∷ []))
+unfolding layTable
+table-more ss k i e h =
+    let none = entry Empty 0 0 in
+    let m : 16 - length ss ≡ suc (16 - (i + 1)) = omega arith in
+    let j : 16 - length (ss ++ (k ∷ [])) ≡ 16 - (i + 1) = omega (arith, length-append ss (k ∷ [])) in
+    let r = replicate (16 - (i + 1)) none in
+    ap (λ (q : ℕ). set (map entryOf ss ++ replicate q none) i (entryOf k)) m
+    ∙ set-at (map entryOf ss) none r (entryOf k) i (length-map ss entryOf ∙ e)
+    ∙ sym (append-snoc (map entryOf ss) (entryOf k) r)
+    ∙ ap₂ (λ (l q : List Entry). l ++ q) (sym (map-append entryOf ss (k ∷ []))) (ap (λ (q : ℕ). replicate q none) (sym j))
+
+parts-more : (ss : List Slot) (k : Slot) → layParts (ss ++ (k ∷ [])) ≡ layParts ss ++ partOf partSize k
+unfolding layParts
+parts-more [] k = append-nil (partOf partSize k)
+parts-more (s ∷ ss) k =
+    ap (λ (l : List ℕ). partOf partSize s ++ l) (parts-more ss k) ∙ sym (append-assoc (partOf partSize s) (layParts ss) (partOf partSize k))
+
+-- what stands after i of n banks: their entries and parts, and which bank is active as far as those behind say
+pub record Loaded (image before : List ℕ) (n i : ℕ) (work : List ℕ) (banks : List Entry) (best active : ℕ) : Type 0 where
+  pub within : i ≤ n
+  pub kept : length work ≡ length before
+  pub table : banks ≡ layTable (readSlots i image)
+  pub parts : work ≡ layParts (readSlots i image) ++ drop (i * partSize) before
+  pub left : activeFrom 0 0 0 (readSlots n image) ≡ activeFrom i best active (readSlots (n - i) (drop (i * bankSize) image))
+
+pub load-none : (image w : List ℕ) (n : ℕ) (banks : List Entry) → banks ≡ replicate 16 (entry Empty 0 0) → Loaded image w n 0 w banks 0 0
+unfolding readSlots layTable layParts
+load-none image w n banks e =
+    record {
+      within = omega arith;
+      kept = refl;
+      table = e;
+      parts = ap (λ (k : ℕ). drop k w) (sym (zero-mul partSize));
+      left = ap₂ (λ (k : ℕ) (l : List ℕ). activeFrom 0 0 0 (readSlots k l)) (sym (sub-zero n)) (ap (λ (k : ℕ). drop k image) (sym (zero-mul bankSize)));
+    }
+
+module _ (image before : List ℕ) (n i : ℕ) (work : List ℕ) (banks : List Entry) (best active : ℕ) (l : Loaded image before n i work banks best active) where
+  module _ (work′ : List ℕ) (e : Entry) (best′ active′ : ℕ) (small : n ≤ 16) (here : i < n) (room : n * 131072 ≤ length before)
+      (kept : length work′ ≡ length work)
+      (part : work′ ≡ take (i * partSize) work ++ (partOf partSize (bankAt image i) ++ drop ((i + 1) * partSize) work))
+      (filled : e ≡ entryOf (bankAt image i))
+      (takes : (rest : List Slot) → activeFrom i best active (bankAt image i ∷ rest) ≡ activeFrom (suc i) best′ active′ rest) where
+    abbrev so-far : List Slot
+    so-far = readSlots i image
+
+    more : readSlots (i + 1) image ≡ so-far ++ (bankAt image i ∷ [])
+    more = ap (λ (j : ℕ). readSlots j image) (add-one i) ∙ slots-more image i
+
+    start : i * partSize ≡ i * 131072
+    start = ap (λ (k : ℕ). i * k) part-size
+
+    front : length (layParts so-far) ≡ i * partSize
+    front =
+        let q : length work ≡ length (layParts so-far) + length (drop (i * partSize) before) =
+        ap length (l .parts) ∙ length-append (layParts so-far) (drop (i * partSize) before) in
+        omega (arith, q, start, l .kept, length-drop (i * partSize) before)
+
+    behind : drop ((i + 1) * partSize) work ≡ drop ((i + 1) * partSize) before
+    behind =
+        ap₂ drop (next i partSize ∙ ap (λ (k : ℕ). k + partSize) (sym front)) (l .parts)
+        ∙ drop-append-add (layParts so-far) (drop (i * partSize) before) partSize
+        ∙ drop-drop partSize (i * partSize) before
+        ∙ ap (λ (k : ℕ). drop k before) (sym (next i partSize))
+
+    pub load-more : Loaded image before n (i + 1) work′ (set banks i e) best′ active′
+    load-more =
+        record {
+          within = omega arith;
+          kept = kept ∙ l .kept;
+          table =
+              ap₂ (λ (t : List Entry) (x : Entry). set t i x) (l .table) filled
+              ∙ table-more so-far (bankAt image i) i (slots-long i image) (omega arith)
+              ∙ ap layTable (sym more);
+          parts =
+              part
+              ∙ ap₂ (λ (x y : List ℕ). x ++ (partOf partSize (bankAt image i) ++ y))
+              (ap (take (i * partSize)) (l .parts) ∙ take-at (layParts so-far) (drop (i * partSize) before) (i * partSize) front) behind
+              ∙ sym (append-assoc (layParts so-far) (partOf partSize (bankAt image i)) (drop ((i + 1) * partSize) before))
+              ∙ ap (λ (x : List ℕ). x ++ drop ((i + 1) * partSize) before) (sym (ap layParts more ∙ parts-more so-far (bankAt image i)));
+          left =
+              l .left ∙ ap (activeFrom i best active) (slots-here image n i here) ∙ takes (readSlots (n - (i + 1)) (drop ((i + 1) * bankSize) image))
+              ∙ ap (λ (j : ℕ). activeFrom j best′ active′ (readSlots (n - (i + 1)) (drop ((i + 1) * bankSize) image))) (sym (add-one i));
+        }
+
+  module _ (done : n ≤ i) where
+    all : i ≡ n
+    all = omega (arith, l .within)
+
+    pub load-state : record { n = n; active = active; tally = 0; banks = banks } ≡ layState (bookOf (readSlots n image) n) 0
+    unfolding readSlots activeFrom
+    load-state =
+        let z : n - i ≡ 0 = omega arith in
+        let a : activeFrom 0 0 0 (readSlots n image) ≡ active =
+        l .left ∙ ap (λ (k : ℕ). activeFrom i best active (readSlots k (drop (i * bankSize) image))) z in
+        let t : banks ≡ layTable (readSlots n image) = l .table ∙ ap (λ (k : ℕ). layTable (readSlots k image)) all in
+        λ j. record { n = n; active = sym a j; tally = 0; banks = t j }
+
+    pub load-work : work ≡ layWork (bookOf (readSlots n image) n) before
+    unfolding layWork
+    load-work = l .parts ∙ ap (λ (k : ℕ). layParts (readSlots k image) ++ drop (k * partSize) before) all

@@ -1,0 +1,94 @@
+use Prim.Native.Nat.{ℕ, _+_, _-_}
+use lib.ListN.{take, drop, length-map}
+use Rattle.nvram.specs.Call.{lookup}
+use Rattle.nvram.specs.Contract.{call, told}
+use Rattle.nvram.proofs.LookupLaws.{fetch-at, fetch-nothing, fetch-refused}
+use native.Mathlib.Omega.{arith}
+use mathlib.Core.Path.{_≡_, ap}
+use borrow.Author.Needs.{needs}
+use Rattle.nvram.proofs.state.Nvram.value.Statement.{statement}
+use Rattle.nvram.proofs.state.Nvram.value.Tie as tie
+
+heard : (c : tie.After-get-variable)
+    → told (c .get-variable .result) ≡ call (lookup (c .before .before .before .args .key .now) (c .before .before .before .args .typ)) (c .before .before .before .args .self) (c .before .before .before .args .work .now) .answer
+heard c = c .get-variable .ensures .answer
+
+get-variable-requires : tie.Need-get-variable-requires
+get-variable-requires c κs = search needs
+
+enum-known-place : tie.Need-enum-known-place
+enum-known-place c = search needs
+
+add-end : tie.Need-add-end
+add-end c = let a = c .before .before .before .before .before .before .args in
+    omega (arith, fetch-at (a .key .now) (a .typ) (a .self) (a .work .now) _ (λ i. omega (arith, c .before .before .before .before .before .shared-slice-known .given i)) (simp length-map at (c .before .before .before .before .before .before .good .0 .1 .1 .1 .1 .1 .0 .1 .0 .1)) (heard (c .before .before .before)) _ _ (c .before .place .given .1) .0)
+
+sub-result : tie.Need-sub-result
+sub-result c = search needs
+
+part-result-start : tie.Need-part-result-start
+part-result-start c = search needs
+
+part-result-end : tie.Need-part-result-end
+part-result-end c = let a = c .before .before .before .before .before .before .args in
+    fetch-at (a .key .now) (a .typ) (a .self) (a .work .now) _ (λ i. omega (arith, c .before .before .before .before .before .shared-slice-known .given i)) (simp length-map at (c .before .before .before .before .before .before .good .0 .1 .1 .1 .1 .1 .0 .1 .0 .1)) (heard (c .before .before .before)) _ _ (c .before .place .given .1) .0
+
+enum-told : tie.Need-enum-told
+enum-told c = search needs
+
+sub-result-2 : tie.Need-sub-result-2
+sub-result-2 c = search needs
+
+part-result-start-2 : tie.Need-part-result-start-2
+part-result-start-2 c = search needs
+
+part-result-end-2 : tie.Need-part-result-end-2
+part-result-end-2 c = search needs
+
+enum-told-2 : tie.Need-enum-told-2
+enum-told-2 c = search needs
+
+sub-result-3 : tie.Need-sub-result-3
+sub-result-3 c = search needs
+
+part-result-start-3 : tie.Need-part-result-start-3
+part-result-start-3 c = search needs
+
+part-result-end-3 : tie.Need-part-result-end-3
+part-result-end-3 c = search needs
+
+returns : tie.Need-returns
+returns c = let a = c .before .before .before .before .before .before .before .args in let p = c .before .before .place .given .0 .0 in let n = c .before .before .place .given .0 .1 .0 in
+    let e : p + n - p ≡ n = omega arith in
+    fetch-at (a .key .now) (a .typ) (a .self) (a .work .now) _ (λ i. omega (arith, c .before .before .before .before .before .before .shared-slice-known .given i)) (simp length-map at (c .before .before .before .before .before .before .before .good .0 .1 .1 .1 .1 .1 .0 .1 .0 .1)) (heard (c .before .before .before .before)) p n (c .before .before .place .given .1) .1 _
+    (ap (λ (i : ℕ). take i (drop p (a .work .now))) e)
+
+returns-2 : tie.Need-returns-2
+returns-2 c = let a = c .before .before .before .before .before .before .args in
+    fetch-nothing (a .key .now) (a .typ) (a .self) (a .work .now) _ (λ i. omega (arith, c .before .before .before .before .before .shared-slice-known .given i)) (simp length-map at (c .before .before .before .before .before .before .good .0 .1 .1 .1 .1 .1 .0 .1 .0 .1)) (heard (c .before .before .before)) (c .before .enum-told .given .1)
+
+returns-3 : tie.Need-returns-3
+returns-3 c = let a = c .before .before .before .before .before .before .args in
+    fetch-refused (a .key .now) (a .typ) (a .self) (a .work .now) _ (λ i. omega (arith, c .before .before .before .before .before .shared-slice-known .given i)) (simp length-map at (c .before .before .before .before .before .before .good .0 .1 .1 .1 .1 .1 .0 .1 .0 .1)) (heard (c .before .before .before)) _ (c .before .enum-told2 .given .1)
+
+pub value-spec : {M : Type 1} → statement M
+value-spec =
+    tie.close
+    (tie.spec
+    get-variable-requires
+    enum-known-place
+    add-end
+    sub-result
+    part-result-start
+    part-result-end
+    enum-told
+    sub-result-2
+    part-result-start-2
+    part-result-end-2
+    enum-told-2
+    sub-result-3
+    part-result-start-3
+    part-result-end-3
+    returns
+    returns-2
+    returns-3)

@@ -1,0 +1,36 @@
+-- The book (01, 'A run, its book and the flash'): the banks as headers and records, apart from how they are laid out.
+use Prim.Native.Nat.{ℕ, _≤_, _<_}
+use mathlib.Core.Path.{_≡_}
+use mathlib.Core.List.{List, [], _∷_}
+use lib.ListN.{length, getD, set}
+use Rattle.bank.specs.Record.{Record}
+use Rattle.bank.specs.Bank.{Bank, Slot, empty, invalid, valid}
+use Rattle.bank.specs.Read.{bankOf}
+use Rattle.nvram.specs.Part.{FineSlot}
+
+pub record Book : Type 0 where
+  pub n : ℕ
+  pub active : ℕ
+  pub slots : List Slot
+
+abbrev pub FineSlots : List Slot → Type 0
+FineSlots [] = Unit {0}
+FineSlots (s ∷ ss) = FineSlot s × FineSlots ss
+
+-- what every book is that came from an opening
+pub record FineBook (b : Book) : Type 0 where
+  pub low : 1 ≤ b .n
+  pub high : b .n ≤ 16
+  pub inside : b .active < b .n
+  pub long : length (b .slots) ≡ b .n
+  pub slots-fine : FineSlots (b .slots)
+
+abbrev pub activeSlot : Book → Slot
+activeSlot b = getD (b .slots) (b .active) invalid
+
+-- the book with another bank in the active slot
+abbrev pub withActive : Book → Bank → Book
+withActive b k = record { n = b .n; active = b .active; slots = set (b .slots) (b .active) (valid k) }
+
+abbrev pub withRecords : Bank → List Record → Bank
+withRecords k rs = bankOf (k .header) rs (k .usable)

@@ -1,0 +1,63 @@
+-- The contract of every call: what it answers and leaves is what the call does to the book that state and work area hold, laid out again;
+-- or 6, and nothing changed.
+use Prim.Native.Nat.{ℕ}
+use mathlib.Core.Path.{_≡_}
+use mathlib.Core.List.{List, []}
+use mathlib.Core.Option.{Option, none, some}
+use lib.ListN.{replicate}
+use Rattle.nvram.specs.declared.state.Kind.the-variants.{Empty}
+use Rattle.nvram.specs.declared.state.Nvram.{Nvram}
+use Rattle.nvram.specs.declared.lookup.Lookup.{Lookup}
+use Rattle.nvram.specs.declared.lookup.Lookup.the-variants.{At, Nothing, Refused}
+use Rattle.nvram.specs.Edit.{Found}
+use Rattle.nvram.specs.Part.{entry}
+use Rattle.nvram.specs.Book.{Book}
+use Rattle.nvram.specs.Opening.{Opened, opened, refused}
+use Rattle.nvram.specs.Layout.{layState, layWork, view}
+use Rattle.nvram.specs.Call.{Call, Answer, looked, refusal, Outcome, step}
+
+pub record After : Type 0 where
+  pub answer : Answer
+  pub out : List ℕ
+  pub state : Nvram
+  pub work : List ℕ
+
+unfoldable pub onBook : Option Book → Call → Nvram → List ℕ → After
+onBook none c s w = record { answer = refusal c 6; out = []; state = s; work = w }
+onBook (some b) c s w =
+    record {
+      answer = step b c .answer;
+      out = step b c .out;
+      state = layState (step b c .after) (s .tally);
+      work = layWork (step b c .after) w;
+    }
+
+unfoldable pub call : Call → Nvram → List ℕ → After
+call c s w = onBook (view s w) c s w
+
+-- the answer a, the bytes x handed back, the state s′ and the work area w′ are those of the definition
+pub record Does (c : Call) (s : Nvram) (w : List ℕ) (a : Answer) (x : List ℕ) (s′ : Nvram) (w′ : List ℕ) : Type 0 where
+  pub answer : a ≡ call c s w .answer
+  pub out : x ≡ call c s w .out
+  pub state : s′ ≡ call c s w .state
+  pub work : w′ ≡ call c s w .work
+
+-- a lookup's answer by cases: found with place and length, none, or refused by a number
+abbrev pub told : Lookup → Answer
+told (At place long) = looked 0 (some (record { place = place; long = long }))
+told Nothing = looked 0 none
+told (Refused k) = looked k none
+
+-- an opening: number, state and work area
+pub record Begun : Type 0 where
+  pub number : ℕ
+  pub state : Nvram
+  pub work : List ℕ
+
+-- a refused opening gives a state of zeros and Empty slots
+abbrev pub noState : Nvram
+noState = record { n = 0; active = 0; tally = 0; banks = replicate 16 (entry Empty 0 0) }
+
+unfoldable pub begun : Opened → List ℕ → Begun
+begun (opened b) w = record { number = 0; state = layState b 0; work = layWork b w }
+begun (refused k) w = record { number = k; state = noState; work = w }

@@ -1,0 +1,14 @@
+// The store over lent buffers: 01, 'Opening', 'Edits and lookups'.
+mod edit;
+mod lookup;
+mod opening;
+mod records;
+mod sound;
+mod state;
+
+pub use edit::Edited;
+pub use lookup::Lookup;
+pub use opening::Opened;
+pub use state::Entry;
+pub use state::Kind;
+pub use state::Nvram;

@@ -1,0 +1,57 @@
+// Lookups of both kinds: 01, 'Edits and lookups'.
+use super::records::Located;
+use super::records::find;
+use super::sound::sound;
+use super::state::Kind;
+use super::state::Nvram;
+use bank::VarType;
+ghost use mathlib.Core.List.{[]};
+ghost use Rattle.nvram.specs.Call.{lookup, fetch, handed};
+ghost use Rattle.nvram.specs.Contract.{Does, told};
+
+// Found at a place of the work area with a length, nothing, or refused by a number.
+pub enum Lookup {
+    At(usize, usize),
+    Nothing,
+    Refused(u32),
+}
+
+impl Nvram {
+    pub fn get_variable(self, work: &[u8], key: &[u8], typ: VarType) -> Lookup
+        ensures { λ r. ⌜ Does (lookup (now (key .entry)) typ) self (now (work .entry)) (told r) [] self (now (work .entry)) ⌝ }
+    {
+        if !sound(self, work) {
+            return Lookup::Refused(6);
+        }
+        let i = self.active as usize;
+        let entry = self.banks[i];
+        let kind = entry.kind;
+        match kind {
+            Kind::Empty => Lookup::Refused(7),
+            Kind::Invalid => Lookup::Refused(7),
+            Kind::Valid => {
+                let a = i * Nvram::PART;
+                let from = a + 24;
+                let to = a + entry.total as usize;
+                match find(work, from, to, key, typ) {
+                    Located::At(place, long) => Lookup::At(place, long),
+                    Located::Nothing => Lookup::Nothing,
+                }
+            }
+        }
+    }
+
+    // The value itself as a part of the work area, empty where there is none or the lookup is refused.
+    pub fn value<'a, 'b>(self, work: &'a [u8], key: &'b [u8], typ: VarType) -> &'a [u8]
+        ensures { λ r. ⌜ Does (fetch (now (key .entry)) typ) self (now (work .entry)) handed (now r) self (now (work .entry)) ⌝ }
+    {
+        match self.get_variable(work, key, typ) {
+            Lookup::At(place, long) => {
+                let end = place + long;
+                &work[place..end]
+            }
+            Lookup::Nothing => &work[0..0],
+            Lookup::Refused(_) => &work[0..0],
+        }
+    }
+}

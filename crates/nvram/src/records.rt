@@ -1,0 +1,160 @@
+// Records as they would be written, one after the other in a part of the work area.
+use bank::VarHeader;
+use bank::VarType;
+use bank::Variable;
+ghost use mathlib.Core.Path.{_≡_};
+ghost use mathlib.Core.Bool.{true};
+ghost use mathlib.Core.List.{List};
+ghost use Prim.Native.Nat.{_+_, _≤_, _<_};
+ghost use lib.ListN.{length};
+ghost use Rattle.crc32.specs.Table.{IsTables};
+ghost use Rattle.bank.specs.Record.{Record, recordOf, sizeAt, recordBytes, recordsBytes};
+ghost use Rattle.bank.specs.Write.{over};
+ghost use Rattle.nvram.specs.Edit.{sameType, matches, removed, fresh, foundIn};
+ghost use Rattle.nvram.specs.Part.{isRecord, viewRecords, given};
+ghost use Rattle.nvram.specs.Records.{Holds, deletedAt, located};
+
+// A value's place and length, or nothing.
+pub(crate) enum Located {
+    At(usize, usize),
+    Nothing,
+}
+
+fn same_type(a: VarType, b: VarType) -> bool
+    ensures { λ r. ⌜ r ≡ sameType a b ⌝ }
+{
+    match a {
+        VarType::Common => match b {
+            VarType::Common => true,
+            VarType::System => false,
+        },
+        VarType::System => match b {
+            VarType::Common => false,
+            VarType::System => true,
+        },
+    }
+}
+
+// Whether s begins with a record as it would be written; t are the checksum's tables.
+fn is_record(t: &[u32; 4096], s: &[u8]) -> bool
+    requires { ⌜ IsTables 16 (now t) ⌝ }
+    ensures { λ r. ⌜ r ≡ isRecord (now (s .entry)) ⌝ }
+{
+    if s.len() < Variable::HEADER_SIZE {
+        return false;
+    }
+    if s[0] != 0xAA {
+        return false;
+    }
+    if s[1] != 0x55 {
+        return false;
+    }
+    if s[3] != 0 {
+        return false;
+    }
+    let header = VarHeader::parse(s);
+    if header.name_size < 1 {
+        return false;
+    }
+    let end = Variable::size(header.name_size, header.data_size);
+    if s.len() < end {
+        return false;
+    }
+    let value = Variable::size(header.name_size, 0);
+    if s[value - 1] != 0 {
+        return false;
+    }
+    header.crc == crc32::crc32_with(t, &s[value..end])
+}
+
+// Whether s is made of such records, to its last byte.
+pub(crate) fn are_records(t: &[u32; 4096], s: &[u8]) -> bool
+    requires { ⌜ IsTables 16 (now t) ⌝ }
+    ensures { λ r. ⌜ r ≡ given (viewRecords (now (s .entry))) ⌝ }
+{
+    let mut at: usize = 0;
+    while at < s.len() {
+        let rest = &s[at..];
+        if !is_record(t, rest) {
+            return false;
+        }
+        let header = VarHeader::parse(rest);
+        at += Variable::size(header.name_size, header.data_size);
+    }
+    true
+}
+
+// Whether the record that begins s is live, of this key and of this type.
+fn is_match(s: &[u8], key: &[u8], typ: VarType) -> bool
+    requires { ⌜ isRecord (now s) ≡ true ⌝ }
+    ensures { λ r. ⌜ r ≡ matches (now (key .entry)) typ (recordOf (now (s .entry))) ⌝ }
+{
+    if s[2] != Variable::ADDED {
+        return false;
+    }
+    let header = VarHeader::parse(s);
+    let closing = Variable::size(header.name_size, 0) - 1;
+    if !buffers::same(&s[36..closing], key) {
+        return false;
+    }
+    let found = Variable::typ(&s[16..32]);
+    same_type(found, typ)
+}
+
+// Marks the record that begins s as deleted if it matches, and answers its size.
+fn delete(s: &mut [u8], key: &[u8], typ: VarType) -> usize
+    requires { ⌜ isRecord (now s) ≡ true ⌝ }
+    ensures { λ r. ⌜ (r ≡ sizeAt (now (s .entry))) × (now (s .exit) ≡ deletedAt (now (key .entry)) typ (now (s .entry))) ⌝ }
+{
+    let header = VarHeader::parse(s);
+    if is_match(s, key, typ) {
+        s[2] = Variable::deleted(header.state);
+    }
+    Variable::size(header.name_size, header.data_size)
+}
+
+// The same for each record from one place of the work area up to another.
+pub(crate) fn delete_all(work: &mut [u8], from: usize, to: usize, key: &[u8], typ: VarType)
+    requires { ⌜ ((rs : List Record) × Holds (now work) from to rs) ⌝ }
+    ensures { λ _. ⌜ ((rs : List Record) → Holds (now (work .entry)) from to rs → now (work .exit) ≡ over from (recordsBytes (removed (now (key .entry)) typ rs)) (now (work .entry))) ⌝ }
+{
+    let mut at = from;
+    while at < to {
+        at += delete(&mut work[at..], key, typ);
+    }
+}
+
+// The value of the first match from one place of the work area up to another.
+pub(crate) fn find(work: &[u8], from: usize, to: usize, key: &[u8], typ: VarType) -> Located
+    requires { ⌜ ((rs : List Record) × Holds (now work) from to rs) ⌝ }
+    ensures { λ r. ⌜ ((rs : List Record) → Holds (now (work .entry)) from to rs → r ≡ located (foundIn (now (key .entry)) typ from rs)) ⌝ }
+{
+    let mut at = from;
+    while at < to {
+        let rest = &work[at..];
+        let header = VarHeader::parse(rest);
+        if is_match(rest, key, typ) {
+            let value = at + Variable::size(header.name_size, 0);
+            return Located::At(value, header.data_size as usize);
+        }
+        at += Variable::size(header.name_size, header.data_size);
+    }
+    Located::Nothing
+}
+
+// Writes a live record over the work area from a place on.
+pub(crate) fn append(work: &mut [u8], at: usize, key: &[u8], value: &[u8], typ: VarType)
+    requires { ⌜ (length (now key) ≤ 131072) × (length (now value) ≤ 131072) × (at + (37 + length (now key) + length (now value)) ≤ length (now work)) ⌝ }
+    ensures { λ _. ⌜ now (work .exit) ≡ over at (recordBytes (fresh (now (key .entry)) (now (value .entry)) typ)) (now (work .entry)) ⌝ }
+{
+    let name_size = (key.len() + 1) as u32;
+    let data_size = value.len() as u32;
+    let header = Variable::fresh(typ, name_size, data_size, crc32::crc32(value)).serialize();
+    let name = at + Variable::HEADER_SIZE;
+    let closing = name + key.len();
+    let data = closing + 1;
+    buffers::copy(&header, &mut work[at..]);
+    buffers::copy(key, &mut work[name..]);
+    work[closing] = 0;
+    buffers::copy(value, &mut work[data..]);
+}

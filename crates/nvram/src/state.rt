@@ -1,0 +1,40 @@
+// The state of a store: 01, 'Opening'.
+ghost use mathlib.Core.Path.{_≡_};
+ghost use Prim.Native.Nat.{_<_};
+ghost use Rattle.nvram.specs.Layout.{setEntry};
+
+// What a slot is.
+pub enum Kind {
+    Empty,
+    Invalid,
+    Valid,
+}
+
+// A bank's entry; total and usable are 0 unless it is Valid.
+pub struct Entry {
+    pub kind: Kind,
+    pub total: u32,
+    pub usable: u32,
+}
+
+// n banks, of which one is active, and the erase requests since opening.
+pub struct Nvram {
+    pub n: u32,
+    pub active: u32,
+    pub tally: u32,
+    pub banks: [Entry; 16],
+}
+
+impl Nvram {
+    pub(crate) const PART: usize = 131072;
+
+    // The state with entry i replaced.
+    pub(crate) fn with_entry(self, i: usize, entry: Entry) -> Nvram
+        requires { ⌜ i < 16 ⌝ }
+        ensures { λ r. ⌜ r ≡ setEntry self i entry ⌝ }
+    {
+        let mut next = self;
+        next.banks[i] = entry;
+        next
+    }
+}
