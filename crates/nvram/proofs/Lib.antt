@@ -11,6 +11,8 @@ pub mod LoadLaws
 pub mod OpeningLaws
 pub mod CallLaws
 pub mod ActiveLaws
+pub mod ReadyLaws
 pub mod EditLaws
 pub mod LookupLaws
+pub mod StandingLaws
 pub mod StepLaws

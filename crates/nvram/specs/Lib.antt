@@ -4,5 +4,6 @@ pub mod Records
 pub mod Book
 pub mod Opening
 pub mod Layout
+pub mod Ready
 pub mod Call
 pub mod Contract

@@ -1,12 +1,18 @@
 // Inserts and removes: 01, 'Edits and lookups'.
+use super::ready::Ready;
 use super::records::append;
 use super::records::delete_all;
-use super::sound::sound;
 use super::state::Entry;
 use super::state::Kind;
 use super::state::Nvram;
 use bank::VarType;
+ghost use mathlib.Core.Path.{_≡_};
 ghost use mathlib.Core.List.{[]};
+ghost use Prim.Native.Nat.{_+_, _≤_, _<_};
+ghost use lib.Dec.{leb};
+ghost use Rattle.nvram.specs.Part.{entry};
+ghost use Rattle.nvram.specs.Layout.{setEntry};
+ghost use Rattle.nvram.specs.Ready.{activeEntry};
 ghost use Rattle.nvram.specs.Call.{insert, remove, edited};
 ghost use Rattle.nvram.specs.Contract.{Does};
 
@@ -20,28 +26,12 @@ impl Nvram {
     pub fn remove_variable(self, work: &mut [u8], key: &[u8], typ: VarType) -> Edited
         ensures { λ r. ⌜ Does (remove (now (key .entry)) typ) self (now (work .entry)) (edited (r .number)) [] (r .state) (now (work .exit)) ⌝ }
     {
-        if !sound(self, work) {
-            return Edited {
-                number: 6,
-                state: self,
-            };
-        }
-        let i = self.active as usize;
-        let entry = self.banks[i];
-        let kind = entry.kind;
-        match kind {
-            Kind::Empty => Edited {
-                number: 7,
+        match self.ready(work) {
+            Ready::Refused(number) => Edited {
+                number,
                 state: self,
             },
-            Kind::Invalid => Edited {
-                number: 7,
-                state: self,
-            },
-            Kind::Valid => {
-                let a = i * Nvram::PART;
-                let from = a + 24;
-                let to = a + entry.total as usize;
+            Ready::Records(from, to) => {
                 delete_all(work, from, to, key, typ);
                 Edited {
                     number: 0,
@@ -54,58 +44,55 @@ impl Nvram {
     pub fn insert_variable(self, work: &mut [u8], key: &[u8], value: &[u8], typ: VarType) -> Edited
         ensures { λ r. ⌜ Does (insert (now (key .entry)) (now (value .entry)) typ) self (now (work .entry)) (edited (r .number)) [] (r .state) (now (work .exit)) ⌝ }
     {
-        if !sound(self, work) {
-            return Edited {
-                number: 6,
-                state: self,
-            };
-        }
-        let i = self.active as usize;
-        let entry = self.banks[i];
-        let kind = entry.kind;
-        match kind {
-            Kind::Empty => Edited {
-                number: 7,
+        match self.ready(work) {
+            Ready::Refused(number) => Edited {
+                number,
                 state: self,
             },
-            Kind::Invalid => Edited {
-                number: 7,
-                state: self,
-            },
-            Kind::Valid => {
-                let total = entry.total as usize;
-                if Nvram::PART < key.len() {
+            Ready::Records(from, to) => {
+                if !self.has_room(key.len(), value.len()) {
                     return Edited {
                         number: 8,
                         state: self,
                     };
                 }
-                if Nvram::PART < value.len() {
-                    return Edited {
-                        number: 8,
-                        state: self,
-                    };
-                }
-                let size = 37 + key.len() + value.len();
-                if Nvram::PART < total + size {
-                    return Edited {
-                        number: 8,
-                        state: self,
-                    };
-                }
-                let a = i * Nvram::PART;
-                let from = a + 24;
-                let to = a + total;
                 delete_all(work, from, to, key, typ);
                 append(work, to, key, value, typ);
-                let next = Entry {
-                    kind: Kind::Valid,
-                    total: (total + size) as u32,
-                    usable: entry.usable,
-                };
-                let state = self.with_entry(i, next);
+                let state = self.grown(key.len(), value.len());
                 Edited { number: 0, state }
             }
         }
+    }
+
+    // Whether a record with a key and a value of these lengths fits behind the active bank's others.
+    fn has_room(self, key: usize, value: usize) -> bool
+        requires { ⌜ (self .active < 16) × (activeEntry self .total ≤ 131072) ⌝ }
+        ensures { λ r. ⌜ r ≡ leb (activeEntry self .total + (37 + key + value)) 131072 ⌝ }
+    {
+        let i = self.active as usize;
+        let entry = self.banks[i];
+        let left = Nvram::PART - entry.total as usize;
+        if left < 37 {
+            return false;
+        }
+        if left - 37 < key {
+            return false;
+        }
+        value <= left - 37 - key
+    }
+
+    // The state with such a record in the active bank.
+    fn grown(self, key: usize, value: usize) -> Nvram
+        requires { ⌜ (self .active < 16) × (activeEntry self .total + (37 + key + value) ≤ 131072) ⌝ }
+        ensures { λ r. ⌜ r ≡ setEntry self (self .active) (entry Kind.Valid (activeEntry self .total + (37 + key + value)) (activeEntry self .usable)) ⌝ }
+    {
+        let i = self.active as usize;
+        let entry = self.banks[i];
+        let next = Entry {
+            kind: Kind::Valid,
+            total: entry.total + (37 + key + value) as u32,
+            usable: entry.usable,
+        };
+        self.with_entry(i, next)
     }
 }

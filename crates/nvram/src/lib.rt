@@ -2,6 +2,7 @@
 mod edit;
 mod lookup;
 mod opening;
+mod ready;
 mod records;
 mod sound;
 mod state;

@@ -1,8 +1,7 @@
 // Lookups of both kinds: 01, 'Edits and lookups'.
+use super::ready::Ready;
 use super::records::Located;
 use super::records::find;
-use super::sound::sound;
-use super::state::Kind;
 use super::state::Nvram;
 use bank::VarType;
 ghost use mathlib.Core.List.{[]};
@@ -20,24 +19,12 @@ impl Nvram {
     pub fn get_variable(self, work: &[u8], key: &[u8], typ: VarType) -> Lookup
         ensures { λ r. ⌜ Does (lookup (now (key .entry)) typ) self (now (work .entry)) (told r) [] self (now (work .entry)) ⌝ }
     {
-        if !sound(self, work) {
-            return Lookup::Refused(6);
-        }
-        let i = self.active as usize;
-        let entry = self.banks[i];
-        let kind = entry.kind;
-        match kind {
-            Kind::Empty => Lookup::Refused(7),
-            Kind::Invalid => Lookup::Refused(7),
-            Kind::Valid => {
-                let a = i * Nvram::PART;
-                let from = a + 24;
-                let to = a + entry.total as usize;
-                match find(work, from, to, key, typ) {
-                    Located::At(place, long) => Lookup::At(place, long),
-                    Located::Nothing => Lookup::Nothing,
-                }
-            }
+        match self.ready(work) {
+            Ready::Refused(number) => Lookup::Refused(number),
+            Ready::Records(from, to) => match find(work, from, to, key, typ) {
+                Located::At(place, long) => Lookup::At(place, long),
+                Located::Nothing => Lookup::Nothing,
+            },
         }
     }
 

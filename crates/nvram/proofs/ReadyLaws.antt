@@ -1,0 +1,76 @@
+-- What `ready` answers, and what follows from each answer.
+use Prim.Native.Nat.{ℕ, _+_, _*_, _≤_}
+use mathlib.Core.Path.{_≡_, refl, sym, _∙_, subst}
+use mathlib.Core.List.{List, []}
+use mathlib.Core.Bool.{Bool, true, false, cond}
+use native.Mathlib.Omega.{arith}
+use lib.Dec.{leb}
+use lib.ListN.{length}
+use borrow.Author.Tests.{le-leb, leb-true, leb-false}
+use Rattle.crc32.specs.Crc32.{Bytes}
+use Rattle.nvram.specs.declared.ready.Ready.{Ready}
+use Rattle.nvram.specs.declared.ready.Ready.the-variants.{Refused, Records}
+use Rattle.nvram.specs.declared.state.Kind.{Kind}
+use Rattle.nvram.specs.declared.state.Kind.the-variants.{Empty, Invalid, Valid}
+use Rattle.nvram.specs.declared.state.Nvram.{Nvram}
+use Rattle.nvram.specs.Part.{given}
+use Rattle.nvram.specs.Layout.{view}
+use Rattle.nvram.specs.Ready.{activeEntry, byKind, readyOf}
+use Rattle.nvram.specs.Call.{Call, refusal}
+use Rattle.nvram.specs.Contract.{Does}
+use Rattle.nvram.proofs.CallLaws.{does-6, empty-valid, invalid-valid}
+use Rattle.nvram.proofs.ActiveLaws.{Sound, does-7}
+
+module _ (s : Nvram) (w : List ℕ) where
+  pub ready-6 : given (view s w) ≡ false → Refused 6 ≡ readyOf s w
+  unfolding readyOf
+  ready-6 e = simp e
+
+  pub ready-as : given (view s w) ≡ true → byKind (activeEntry s .kind) s ≡ readyOf s w
+  unfolding readyOf
+  ready-as e = simp e
+
+-- the active bank's records stand here
+pub record Standing (s : Nvram) (w : List ℕ) (from to : ℕ) : Type 0 where
+  pub sound : Sound s w
+  pub valid : activeEntry s .kind ≡ Valid
+  pub from-is : from ≡ s .active * 131072 + 24
+  pub to-is : to ≡ s .active * 131072 + activeEntry s .total
+
+module _ {s : Nvram} {w : List ℕ} (bytes : Bytes w) (long : length (s .banks) ≡ 16) {r : Ready} (e : r ≡ readyOf s w) where
+  known : given (view s w) ≡ true → Sound s w
+  known g = record { bytes = bytes; long = long; ok = g }
+
+  pub refused : (k : ℕ) (c : Call) → r ≡ Refused k → Does c s w (refusal c k) [] s w
+  unfolding readyOf byKind
+  refused k c q = go (given (view s w)) (activeEntry s .kind) refl refl (sym q ∙ e)
+    where
+      number : (n : ℕ) → Refused k ≡ Refused n → Does c s w (refusal c n) [] s w → Does c s w (refusal c k) [] s w
+      number n p d = let z : n ≡ k = cc in subst (λ (i : ℕ). Does c s w (refusal c i) [] s w) z d
+
+      go : (g : Bool) (x : Kind) → given (view s w) ≡ g → activeEntry s .kind ≡ x → Refused k ≡ cond g (byKind x s) (Refused 6)
+          → Does c s w (refusal c k) [] s w
+      go false x a b p = number 6 p (does-6 c s w a)
+      go true Empty a b p = number 7 p (does-7 (known a) c (empty-valid _ b))
+      go true Invalid a b p = number 7 p (does-7 (known a) c (invalid-valid _ b))
+      go true Valid a b p = let z : _≡_ {A = ℕ} 0 1 = cc in absurd (omega arith)
+
+  pub standing : (from to : ℕ) → r ≡ Records from to → Standing s w from to
+  unfolding readyOf byKind
+  standing from to q = go (given (view s w)) (activeEntry s .kind) refl refl (sym q ∙ e)
+    where
+      go : (g : Bool) (x : Kind) → given (view s w) ≡ g → activeEntry s .kind ≡ x → Records from to ≡ cond g (byKind x s) (Refused 6)
+          → Standing s w from to
+      go false x a b p = let z : _≡_ {A = ℕ} 0 1 = cc in absurd (omega arith)
+      go true Empty a b p = let z : _≡_ {A = ℕ} 0 1 = cc in absurd (omega arith)
+      go true Invalid a b p = let z : _≡_ {A = ℕ} 0 1 = cc in absurd (omega arith)
+      go true Valid a b p = record { sound = known a; valid = b; from-is = cc; to-is = cc }
+
+-- two tests of one fact
+pub same-test : (a b c d : ℕ) → (a ≤ b → c ≤ d) → (c ≤ d → a ≤ b) → leb a b ≡ leb c d
+same-test a b c d f g = go (leb a b) (leb c d) refl refl
+  where
+    go : (x y : Bool) → leb a b ≡ x → leb c d ≡ y → leb a b ≡ leb c d
+    go true y p q = p ∙ sym (le-leb _ _ (f (leb-true _ _ p)))
+    go false true p q = let z : a ≤ b = g (leb-true _ _ q) in absurd (omega (arith, leb-false a b p))
+    go false false p q = p ∙ sym q

@@ -1,0 +1,33 @@
+// What every call on the active bank asks first: refusals 6 and 7.
+use super::sound::sound;
+use super::state::Kind;
+use super::state::Nvram;
+ghost use mathlib.Core.Path.{_≡_};
+ghost use Rattle.nvram.specs.Ready.{readyOf};
+
+// Refused by a number, or where the active bank's records begin and end in the work area.
+pub(crate) enum Ready {
+    Refused(u32),
+    Records(usize, usize),
+}
+
+impl Nvram {
+    pub(crate) fn ready(self, work: &[u8]) -> Ready
+        ensures { λ r. ⌜ r ≡ readyOf self (now (work .entry)) ⌝ }
+    {
+        if !sound(self, work) {
+            return Ready::Refused(6);
+        }
+        let i = self.active as usize;
+        let entry = self.banks[i];
+        let kind = entry.kind;
+        match kind {
+            Kind::Empty => Ready::Refused(7),
+            Kind::Invalid => Ready::Refused(7),
+            Kind::Valid => {
+                let part = i * Nvram::PART;
+                Ready::Records(part + 24, part + entry.total as usize)
+            }
+        }
+    }
+}
