@@ -23,7 +23,7 @@ pub(crate) fn u16_at(s: &[u8], at: usize) -> u16
     wide16(s[at]) + 256 * wide16(s[at + 1])
 }
 
-pub(crate) fn u32_at(s: &[u8], at: usize) -> u32
+pub fn u32_at(s: &[u8], at: usize) -> u32
     requires { ⌜ at + 4 ≤ length (now s) ⌝ }
     ensures { λ r. ⌜ r ≡ u32At (now (s .entry)) at ⌝ }
 {
@@ -34,7 +34,7 @@ pub(crate) fn u32_at(s: &[u8], at: usize) -> u32
 }
 
 // The four bytes of a number.
-pub(crate) fn le32(n: u32) -> [u8; 4]
+pub fn le32(n: u32) -> [u8; 4]
     ensures { λ r. ⌜ r ≡ le32Of n ⌝ }
 {
     [

@@ -1,0 +1,3 @@
+pub mod StateLaws
+mod LoopLaws
+mod StoreLaws

@@ -1,0 +1,52 @@
+use Rattle.exports.proofs.StoreLaws.{load-none, load-some, calls-6, calls}
+use borrow.Author.Tests.{not-true, not-false}
+use Rattle.nvram.specs.Call.{insert, edited}
+use Rattle.exports.specs.Store.{typeOf}
+use Rattle.exports.proofs.StateLaws.{read-is}
+use borrow.Author.Needs.{needs}
+use Rattle.exports.proofs.store.feqyondil_insert.Statement.{statement}
+use Rattle.exports.proofs.store.feqyondil_insert.Tie as tie
+
+load-requires : tie.Need-load-requires
+load-requires c κs = search needs
+
+same-length : tie.Need-same-length
+same-length c = search needs
+
+returns : tie.Need-returns
+returns c = let a = c .before .before .before .before .before .before .before .before .args in calls-6 (insert (a .key .now) (a .value .now) (typeOf (a .typ))) (a .state .now) (a .work .now) (load-none _ _ (c .before .before .load .ensures) (not-true _ (c .if1 .taken)))
+
+var-type-requires : tie.Need-var-type-requires
+var-type-requires c κs = search needs
+
+insert-variable-requires : tie.Need-insert-variable-requires
+insert-variable-requires c κs = search needs
+
+store-requires : tie.Need-store-requires
+store-requires c κs = read-is _ _ (load-some _ _ (c .before .before .before .before .before .before .before .before .before .before .load .ensures) (not-false _ (c .before .before .before .before .before .before .before .before .if1 .left))) .room
+
+same-length-2 : tie.Need-same-length-2
+same-length-2 c = search needs
+
+same-length-3 : tie.Need-same-length-3
+same-length-3 c = search needs
+
+returns-2 : tie.Need-returns-2
+returns-2 c = let a = c .before .before .before .before .before .before .before .before .before .before .before .before .before .before .before .before .before .before .before .args in
+    let t = c .before .before .before .before .before .before .before .before .var-type .ensures in
+    calls (insert (a .key .now) (a .value .now) (typeOf (a .typ))) (a .state .now) (a .work .now) _ (load-some _ _ (c .before .before .before .before .before .before .before .before .before .before .before .before .before .load .ensures) (not-false _ (c .before .before .before .before .before .before .before .before .before .before .before .if1 .left)))
+    (edited (c .before .before .before .before .before .before .before .insert-variable .result .number)) _ _ _ _ (rw t at (c .before .before .before .before .before .before .before .insert-variable .ensures)) (c .before .before .store .ensures)
+
+pub feqyondil-insert-spec : {M : Type 1} → statement M
+feqyondil-insert-spec =
+    tie.close
+    (tie.spec
+    load-requires
+    same-length
+    returns
+    var-type-requires
+    insert-variable-requires
+    store-requires
+    same-length-2
+    same-length-3
+    returns-2)

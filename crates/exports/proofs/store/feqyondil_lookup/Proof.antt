@@ -1,0 +1,44 @@
+use Rattle.exports.proofs.StoreLaws.{load-none, load-some, finds-6, finds}
+use native.Mathlib.Omega.{arith}
+use borrow.Author.Tests.{not-true, not-false}
+use Rattle.nvram.specs.Call.{lookup}
+use Rattle.exports.specs.Store.{typeOf}
+use borrow.Author.Needs.{needs}
+use Rattle.exports.proofs.store.feqyondil_lookup.Statement.{statement}
+use Rattle.exports.proofs.store.feqyondil_lookup.Tie as tie
+
+load-requires : tie.Need-load-requires
+load-requires c κs = search needs
+
+returns : tie.Need-returns
+returns c = let a = c .before .before .before .before .before .before .before .args in finds-6 (lookup (a .key .now) (typeOf (a .typ))) (a .state .now) (a .work .now) (load-none _ _ (c .before .before .before .load .ensures) (not-true _ (c .before .if1 .taken)))
+
+var-type-requires : tie.Need-var-type-requires
+var-type-requires c κs = search needs
+
+get-variable-requires : tie.Need-get-variable-requires
+get-variable-requires c κs = search needs
+
+fields-requires : tie.Need-fields-requires
+fields-requires c κs = search needs
+
+number-requires : tie.Need-number-requires
+number-requires c κs = search needs
+
+returns-2 : tie.Need-returns-2
+returns-2 c = let a = c .before .before .before .before .before .before .before .before .before .before .before .args in
+    let t = c .before .before .before .var-type .ensures in
+    finds (lookup (a .key .now) (typeOf (a .typ))) (a .state .now) (a .work .now) _ (load-some _ _ (c .before .before .before .before .before .before .before .load .ensures) (not-false _ (c .before .before .before .before .before .if1 .left)))
+    (λ i. omega (arith, c .before .before .before .before .before .before .before .before .before .before .shared-slice-known .given i)) _ _ _ (rw t at (c .before .before .get-variable .ensures)) (c .number .ensures) (c .before .fields .ensures)
+
+pub feqyondil-lookup-spec : {M : Type 1} → statement M
+feqyondil-lookup-spec =
+    tie.close
+    (tie.spec
+    load-requires
+    returns
+    var-type-requires
+    get-variable-requires
+    fields-requires
+    number-requires
+    returns-2)

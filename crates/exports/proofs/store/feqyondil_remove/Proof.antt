@@ -1,0 +1,40 @@
+use Rattle.exports.proofs.StoreLaws.{load-none, load-some, calls-6, removes}
+use native.Mathlib.Omega.{arith}
+use borrow.Author.Tests.{not-true, not-false}
+use Rattle.nvram.specs.Call.{remove}
+use Rattle.exports.specs.Store.{typeOf}
+use borrow.Author.Needs.{needs}
+use Rattle.exports.proofs.store.feqyondil_remove.Statement.{statement}
+use Rattle.exports.proofs.store.feqyondil_remove.Tie as tie
+
+load-requires : tie.Need-load-requires
+load-requires c κs = search needs
+
+returns : tie.Need-returns
+returns c = let a = c .before .before .before .before .before .before .args in calls-6 (remove (a .key .now) (typeOf (a .typ))) (a .state .now) (a .work .now) (load-none _ _ (c .before .before .load .ensures) (not-true _ (c .if1 .taken)))
+
+var-type-requires : tie.Need-var-type-requires
+var-type-requires c κs = search needs
+
+remove-variable-requires : tie.Need-remove-variable-requires
+remove-variable-requires c κs = search needs
+
+same-length : tie.Need-same-length
+same-length c = search needs
+
+returns-2 : tie.Need-returns-2
+returns-2 c = let a = c .before .before .before .before .before .before .before .before .before .before .before .before .args in
+    let t = c .before .before .before .var-type .ensures in
+    removes (a .key .now) (typeOf (a .typ)) (a .state .now) (a .work .now) _ (load-some _ _ (c .before .before .before .before .before .before .before .before .load .ensures) (not-false _ (c .before .before .before .before .before .before .if1 .left)))
+    (λ i. omega (arith, c .before .before .before .before .before .before .before .before .before .before .before .shared-slice-known .given i)) (λ i. omega (arith, c .before .before .before .before .before .before .before .before .before .before .slice-known .given i)) _ _ _ (rw t at (c .before .before .remove-variable .ensures))
+
+pub feqyondil-remove-spec : {M : Type 1} → statement M
+feqyondil-remove-spec =
+    tie.close
+    (tie.spec
+    load-requires
+    returns
+    var-type-requires
+    remove-variable-requires
+    same-length
+    returns-2)

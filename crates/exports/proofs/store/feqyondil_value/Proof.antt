@@ -1,0 +1,45 @@
+use Rattle.exports.proofs.StoreLaws.{load-none, load-some, hands-6, hands}
+use mathlib.Core.Path.{refl}
+use native.Mathlib.Omega.{arith}
+use borrow.Author.Tests.{not-true, not-false}
+use Rattle.nvram.specs.Call.{fetch, handed}
+use Rattle.exports.specs.Store.{typeOf}
+use borrow.Author.Needs.{needs}
+use Rattle.exports.proofs.store.feqyondil_value.Statement.{statement}
+use Rattle.exports.proofs.store.feqyondil_value.Tie as tie
+
+load-requires : tie.Need-load-requires
+load-requires c κs = search needs
+
+returns : tie.Need-returns
+returns c = let a = c .before .before .before .before .before .before .before .args in hands-6 (fetch (a .key .now) (typeOf (a .typ))) (a .state .now) (a .work .now) (load-none _ _ (c .before .before .load .ensures) (not-true _ (c .if1 .taken))) _
+
+var-type-requires : tie.Need-var-type-requires
+var-type-requires c κs = search needs
+
+value-requires : tie.Need-value-requires
+value-requires c κs = search needs
+
+copy-requires : tie.Need-copy-requires
+copy-requires c κs = search needs
+
+same-length : tie.Need-same-length
+same-length c = search needs
+
+returns-2 : tie.Need-returns-2
+returns-2 c = let a = c .before .before .before .before .before .before .before .before .before .before .before .before .before .before .args in
+    let t = c .before .before .before .before .before .var-type .ensures in
+    hands (fetch (a .key .now) (typeOf (a .typ))) (a .state .now) (a .work .now) _ (load-some _ _ (c .before .before .before .before .before .before .before .before .before .load .ensures) (not-false _ (c .before .before .before .before .before .before .before .if1 .left)))
+    (λ i. omega (arith, c .before .before .before .before .before .before .before .before .before .before .before .before .before .shared-slice-known .given i)) handed _ _ _ _ (rw t at (c .before .before .before .before .value .ensures)) refl (c .before .before .copy .ensures)
+
+pub feqyondil-value-spec : {M : Type 1} → statement M
+feqyondil-value-spec =
+    tie.close
+    (tie.spec
+    load-requires
+    returns
+    var-type-requires
+    value-requires
+    copy-requires
+    same-length
+    returns-2)

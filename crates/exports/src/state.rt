@@ -1,0 +1,139 @@
+// The state as bytes; specs/State has the layout.
+use nvram::Entry;
+use nvram::Kind;
+use nvram::Nvram;
+ghost use mathlib.Core.Path.{_≡_};
+ghost use mathlib.Core.Option.{none};
+ghost use Prim.Native.Nat.{_+_, _≤_};
+ghost use lib.ListN.{length, replicate};
+ghost use Rattle.bank.specs.Number.{le32};
+ghost use Rattle.bank.specs.Write.{over};
+ghost use Rattle.nvram.specs.Part.{entry};
+ghost use Rattle.exports.specs.State.{kindNumber, three, stored, kindOf, entryAt, readState, loaded};
+
+pub(crate) const STATE: usize = 204;
+
+// A state, or zeros where the bytes hold none.
+pub(crate) struct Loaded {
+    pub ok: bool,
+    pub state: Nvram,
+}
+
+fn kind_of(number: u32) -> Kind
+    ensures { λ r. ⌜ r ≡ kindOf number ⌝ }
+{
+    if number == 0 {
+        return Kind::Empty;
+    }
+    if number == 1 {
+        return Kind::Invalid;
+    }
+    Kind::Valid
+}
+
+fn kind_number(kind: Kind) -> u32
+    ensures { λ r. ⌜ r ≡ kindNumber kind ⌝ }
+{
+    match kind {
+        Kind::Empty => 0,
+        Kind::Invalid => 1,
+        Kind::Valid => 2,
+    }
+}
+
+fn no_banks() -> [Entry; 16]
+    ensures { λ r. ⌜ r ≡ replicate 16 (entry Kind.Empty 0 0) ⌝ }
+{
+    let none = Entry {
+        kind: Kind::Empty,
+        total: 0,
+        usable: 0,
+    };
+    [none; 16]
+}
+
+fn no_load() -> Loaded
+    ensures { λ r. ⌜ r ≡ loaded none ⌝ }
+{
+    let banks = no_banks();
+    let state = Nvram {
+        n: 0,
+        active: 0,
+        tally: 0,
+        banks,
+    };
+    Loaded { ok: false, state }
+}
+
+fn entry_at(bytes: &[u8]) -> Entry
+    requires { ⌜ 12 ≤ length (now bytes) ⌝ }
+    ensures { λ r. ⌜ r ≡ entryAt (now (bytes .entry)) ⌝ }
+{
+    let kind = kind_of(bank::u32_at(bytes, 0));
+    let total = bank::u32_at(bytes, 4);
+    let usable = bank::u32_at(bytes, 8);
+    Entry {
+        kind,
+        total,
+        usable,
+    }
+}
+
+pub(crate) fn load(bytes: &[u8]) -> Loaded
+    ensures { λ r. ⌜ r ≡ loaded (readState (now (bytes .entry))) ⌝ }
+{
+    if bytes.len() < STATE {
+        return no_load();
+    }
+    let mut banks = no_banks();
+    let mut i: usize = 0;
+    while i < 16 {
+        let at = 12 + 12 * i;
+        let rest = &bytes[at..];
+        if 2 < bank::u32_at(rest, 0) {
+            return no_load();
+        }
+        banks[i] = entry_at(rest);
+        i += 1;
+    }
+    let state = Nvram {
+        n: bank::u32_at(bytes, 0),
+        active: bank::u32_at(bytes, 4),
+        tally: bank::u32_at(bytes, 8),
+        banks,
+    };
+    Loaded { ok: true, state }
+}
+
+fn put(bytes: &mut [u8], at: usize, number: u32)
+    requires { ⌜ at + 4 ≤ length (now bytes) ⌝ }
+    ensures { λ _. ⌜ now (bytes .exit) ≡ over at (le32 number) (now (bytes .entry)) ⌝ }
+{
+    let four = bank::le32(number);
+    buffers::copy(&four, &mut bytes[at..]);
+}
+
+fn put_three(bytes: &mut [u8], at: usize, a: u32, b: u32, c: u32)
+    requires { ⌜ at + 12 ≤ length (now bytes) ⌝ }
+    ensures { λ _. ⌜ now (bytes .exit) ≡ over at (three a b c) (now (bytes .entry)) ⌝ }
+{
+    put(bytes, at, a);
+    put(bytes, at + 4, b);
+    put(bytes, at + 8, c);
+}
+
+pub(crate) fn store(state: Nvram, bytes: &mut [u8])
+    requires { ⌜ 204 ≤ length (now bytes) ⌝ }
+    ensures { λ _. ⌜ now (bytes .exit) ≡ stored state (now (bytes .entry)) ⌝ }
+{
+    put_three(bytes, 0, state.n, state.active, state.tally);
+    let banks = state.banks;
+    let mut i: usize = 0;
+    while i < 16 {
+        let entry = banks[i];
+        let kind = entry.kind;
+        let at = 12 + 12 * i;
+        put_three(bytes, at, kind_number(kind), entry.total, entry.usable);
+        i += 1;
+    }
+}

@@ -1,0 +1,135 @@
+// The store's calls. The state travels as bytes, of which specs/State has the layout.
+use super::state::STATE;
+use super::state::load;
+use super::state::store;
+use bank::VarType;
+use nvram::Lookup;
+use nvram::Nvram;
+ghost use mathlib.Core.Path.{_≡_};
+ghost use mathlib.Core.List.{[]};
+ghost use Rattle.nvram.specs.Call.{insert, remove, lookup, fetch};
+ghost use Rattle.nvram.specs.Contract.{told};
+ghost use Rattle.exports.specs.Store.{typeOf, foundOf, numberOf, Calls, Finds, Hands, Opens};
+
+fn var_type(typ: u32) -> VarType
+    ensures { λ r. ⌜ r ≡ typeOf typ ⌝ }
+{
+    if typ == 0 {
+        VarType::Common
+    } else {
+        VarType::System
+    }
+}
+
+// Opens an image into state and work area; state bytes too few are refused before anything is written.
+#[no_mangle]
+pub extern "C" fn feqyondil_open(image: &[u8], state: &mut [u8], work: &mut [u8]) -> u32
+    ensures { λ r. ⌜ Opens (now (image .entry)) (now (state .entry)) (now (work .entry)) r (now (state .exit)) (now (work .exit)) ⌝ }
+{
+    if state.len() < STATE {
+        return 6;
+    }
+    let opened = Nvram::parse(image, work);
+    let after = opened.state;
+    store(after, state);
+    opened.number
+}
+
+// Appends a value to the active bank, in place of those of its key and type.
+#[no_mangle]
+pub extern "C" fn feqyondil_insert(
+    state: &mut [u8],
+    work: &mut [u8],
+    key: &[u8],
+    value: &[u8],
+    typ: u32,
+) -> u32
+    ensures { λ r. ⌜ Calls (insert (now (key .entry)) (now (value .entry)) (typeOf typ)) (now (state .entry)) (now (work .entry)) r [] (now (state .exit)) (now (work .exit)) ⌝ }
+{
+    let loaded = load(state);
+    if !loaded.ok {
+        return 6;
+    }
+    let before = loaded.state;
+    let edited = before.insert_variable(work, key, value, var_type(typ));
+    let after = edited.state;
+    store(after, state);
+    edited.number
+}
+
+// Deletes the values of a key and type in the active bank, which leaves the state as it was.
+#[no_mangle]
+pub extern "C" fn feqyondil_remove(state: &[u8], work: &mut [u8], key: &[u8], typ: u32) -> u32
+    ensures { λ r. ⌜ Calls (remove (now (key .entry)) (typeOf typ)) (now (state .entry)) (now (work .entry)) r [] (now (state .entry)) (now (work .exit)) ⌝ }
+{
+    let loaded = load(state);
+    if !loaded.ok {
+        return 6;
+    }
+    let before = loaded.state;
+    let edited = before.remove_variable(work, key, var_type(typ));
+    edited.number
+}
+
+fn number(found: Lookup) -> u32
+    ensures { λ r. ⌜ r ≡ numberOf (told found) ⌝ }
+{
+    match found {
+        Lookup::At(_, _) => 0,
+        Lookup::Nothing => 0,
+        Lookup::Refused(number) => number,
+    }
+}
+
+fn fields(found: Lookup) -> [u64; 3]
+    ensures { λ r. ⌜ r ≡ foundOf (told found) ⌝ }
+{
+    match found {
+        Lookup::At(place, long) => [1, place as u64, long as u64],
+        Lookup::Nothing => [0; 3],
+        Lookup::Refused(_) => [0; 3],
+    }
+}
+
+// The value's place in the work area and its length.
+#[no_mangle]
+pub extern "C" fn feqyondil_lookup(
+    state: &[u8],
+    work: &[u8],
+    key: &[u8],
+    typ: u32,
+    out: &mut [u64; 3],
+) -> u32
+    ensures { λ r. ⌜ Finds (lookup (now (key .entry)) (typeOf typ)) (now (state .entry)) (now (work .entry)) r (now (out .exit)) ⌝ }
+{
+    let loaded = load(state);
+    if !loaded.ok {
+        *out = [0; 3];
+        return 6;
+    }
+    let before = loaded.state;
+    let found = before.get_variable(work, key, var_type(typ));
+    *out = fields(found);
+    number(found)
+}
+
+// The value's length, and the value over the front of out.
+#[no_mangle]
+pub extern "C" fn feqyondil_value(
+    state: &[u8],
+    work: &[u8],
+    key: &[u8],
+    typ: u32,
+    out: &mut [u8],
+) -> usize
+    ensures { λ r. ⌜ Hands (fetch (now (key .entry)) (typeOf typ)) (now (state .entry)) (now (work .entry)) r (now (out .entry)) (now (out .exit)) ⌝ }
+{
+    let loaded = load(state);
+    if !loaded.ok {
+        return 0;
+    }
+    let before = loaded.state;
+    let value = before.value(work, key, var_type(typ));
+    buffers::copy(value, out);
+    value.len()
+}

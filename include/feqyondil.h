@@ -1,0 +1,140 @@
+/*
+ * Feqyondil: a proved flash store, v3 banks.
+ *
+ * No function keeps a pointer, allocates, or reads or writes outside the buffers it is lent. A byte
+ * buffer is a pointer and a length; a pointer with length 0 is never followed, but must not be
+ * null. Arrays have the length that their type names. A buffer that is not const must not overlap
+ * another buffer of the same call. Stored numbers are little-endian.
+ */
+#ifndef FEQYONDIL_H
+#define FEQYONDIL_H
+
+#include <stddef.h>
+#include <stdint.h>
+
+#ifdef __cplusplus
+extern "C" {
+#endif
+
+/* Sizes, in bytes. */
+#define FEQYONDIL_BANK_SIZE 65536u       /* one bank of an image */
+#define FEQYONDIL_BANKS_MAX 16u          /* banks of an image */
+#define FEQYONDIL_PART_SIZE 131072u      /* work area for each bank */
+#define FEQYONDIL_STATE_SIZE 204u        /* the state */
+#define FEQYONDIL_CRC32_TABLE_ENTRIES 4096u /* entries, of four bytes each */
+
+/* Types of a variable. Every number other than 0 is taken as System. */
+#define FEQYONDIL_COMMON 0u
+#define FEQYONDIL_SYSTEM 1u
+
+/* Numbers of a call; all but the first refuse, and a refusal changes nothing that was lent,
+   except as feqyondil_open and feqyondil_lookup say. */
+#define FEQYONDIL_OK 0u
+#define FEQYONDIL_IMAGE_SHORT 1u  /* the image is below 65,536 bytes */
+#define FEQYONDIL_IMAGE_LONG 2u   /* the image is of 1,114,112 bytes or more */
+#define FEQYONDIL_WORK_SHORT 3u   /* the work area is below 131,072 bytes per bank */
+#define FEQYONDIL_NO_VALID 4u     /* no bank is Valid */
+#define FEQYONDIL_NOT_SOUND 6u    /* state and work area are not those of an opened store */
+#define FEQYONDIL_NOT_VALID 7u    /* the active bank isn't Valid */
+#define FEQYONDIL_FULL 8u         /* insert would bring the bank's total over 131,072 */
+
+/* Kinds of a bank, as feqyondil_partition_parse answers them. */
+#define FEQYONDIL_SLOT_SHORT 0u   /* too few bytes were lent */
+#define FEQYONDIL_SLOT_EMPTY 1u
+#define FEQYONDIL_SLOT_INVALID 2u
+#define FEQYONDIL_SLOT_VALID 3u
+
+/*
+ * The checksum.
+ */
+
+/* CRC-32 of IEEE 802.3. */
+uint32_t feqyondil_crc32(const uint8_t *bytes, size_t bytes_len);
+
+/* Fills the tables that feqyondil_crc32_with takes. */
+void feqyondil_crc32_tables(uint32_t tables[4096]);
+
+/* The same checksum, with tables made once. With other tables than those, the answer is no checksum. */
+uint32_t feqyondil_crc32_with(const uint32_t tables[4096], const uint8_t *bytes, size_t bytes_len);
+
+/*
+ * One bank.
+ */
+
+/*
+ * Reads the bank in the first 65,536 bytes of nvr and answers its kind: 0 where fewer are lent.
+ * fields gets size, generation, state, flags, system limit, common limit, total and usable; zeros
+ * unless the bank is Valid.
+ */
+uint32_t feqyondil_partition_parse(const uint8_t *nvr, size_t nvr_len, uint64_t fields[8]);
+
+/*
+ * The same, and the bank as it would be written to part, then 0xFF to its end; all 0xFF for a bank
+ * that isn't Valid. 0 where nvr or part is below 65,536 bytes; part is then left as it was.
+ */
+uint32_t feqyondil_partition_serialize(const uint8_t *nvr, size_t nvr_len, uint8_t *part, size_t part_len,
+                                       uint64_t fields[8]);
+
+/*
+ * The store. The caller lends a state and a work area to each call, as the call before left them.
+ *
+ * The state's first 204 bytes are 51 numbers of four bytes: n, active, tally, then 16 entries of
+ * kind (0 Empty, 1 Invalid, 2 Valid), total and usable. Later bytes are ignored and left. Every
+ * call but feqyondil_open refuses by 6 where fewer bytes are lent, where a kind is above 2, and
+ * where state and work area are not sound.
+ *
+ * The work area is n * 131,072 bytes. Later bytes are ignored and left.
+ */
+
+/*
+ * Opens an image of 1 to 16 banks of 65,536 bytes; a last part of a bank is ignored. Answers 0,
+ * and fills state and work area.
+ *
+ * Refusals: 6 where the state is below 204 bytes, and then nothing is written; 1, 2, 3, 4, in this
+ * order, and then the state is all zeros in its first 204 bytes and the work area as it was.
+ */
+uint32_t feqyondil_open(const uint8_t *image, size_t image_len, uint8_t *state, size_t state_len, uint8_t *work,
+                        size_t work_len);
+
+/*
+ * Puts a value under a key of a type into the active bank, in place of every live one of that key
+ * and type.
+ *
+ * Refusals: 6, 7, and 8, of which each leaves state and work area as they were. The record takes
+ * 37 bytes, and the key and the value.
+ */
+uint32_t feqyondil_insert(uint8_t *state, size_t state_len, uint8_t *work, size_t work_len, const uint8_t *key,
+                          size_t key_len, const uint8_t *value, size_t value_len, uint32_t type);
+
+/*
+ * Removes every live value of a key and a type from the active bank; where there is none, nothing
+ * changes. The state stays as it is.
+ *
+ * Refusals: 6 and 7, of which each leaves the work area as it was.
+ */
+uint32_t feqyondil_remove(const uint8_t *state, size_t state_len, uint8_t *work, size_t work_len,
+                          const uint8_t *key, size_t key_len, uint32_t type);
+
+/*
+ * Looks a key and a type up in the active bank. found gets 1, the value's place counted from the
+ * start of the work area, and its length; zeros where there is no such value.
+ *
+ * Refusals: 6 and 7; found then gets zeros.
+ */
+uint32_t feqyondil_lookup(const uint8_t *state, size_t state_len, const uint8_t *work, size_t work_len,
+                          const uint8_t *key, size_t key_len, uint32_t type, uint64_t found[3]);
+
+/*
+ * Copies the value of a key and a type to the front of out, as far as out goes, and answers the
+ * value's length, which may be more than out has. Bytes of out behind the value stay. 0, and out
+ * as it was, where there is no such value or the lookup is refused; feqyondil_lookup tells these
+ * from an empty value.
+ */
+size_t feqyondil_value(const uint8_t *state, size_t state_len, const uint8_t *work, size_t work_len,
+                       const uint8_t *key, size_t key_len, uint32_t type, uint8_t *out, size_t out_len);
+
+#ifdef __cplusplus
+}
+#endif
+
+#endif
