@@ -1,6 +1,6 @@
 // Stored numbers, least byte first.
 ghost use mathlib.Core.Path.{_≡_};
-ghost use Prim.Native.Nat.{_+_, _≤_, _<_};
+ghost use Prim.Native.Nat.{_+_, _*_, _≤_, _<_};
 ghost use lib.ListN.{length};
 ghost use Rattle.bank.specs.Number.{u16At, u32At, le32 as le32Of};
 
@@ -23,14 +23,18 @@ pub(crate) fn u16_at(s: &[u8], at: usize) -> u16
     wide16(s[at]) + 256 * wide16(s[at + 1])
 }
 
-pub fn u32_at(s: &[u8], at: usize) -> u32
+// The number in four bytes.
+pub fn u32_of(a: u8, b: u8, c: u8, d: u8) -> u32
+    ensures { λ r. ⌜ r ≡ a + 256 * b + 65536 * c + 16777216 * d ⌝ }
+{
+    wide32(a) + 256 * wide32(b) + 65536 * wide32(c) + 16777216 * wide32(d)
+}
+
+pub(crate) fn u32_at(s: &[u8], at: usize) -> u32
     requires { ⌜ at + 4 ≤ length (now s) ⌝ }
     ensures { λ r. ⌜ r ≡ u32At (now (s .entry)) at ⌝ }
 {
-    wide32(s[at])
-        + 256 * wide32(s[at + 1])
-        + 65536 * wide32(s[at + 2])
-        + 16777216 * wide32(s[at + 3])
+    u32_of(s[at], s[at + 1], s[at + 2], s[at + 3])
 }
 
 // The four bytes of a number.

@@ -6,7 +6,7 @@ ghost use mathlib.Core.Path.{_≡_};
 ghost use mathlib.Core.Option.{none};
 ghost use Prim.Native.Nat.{_+_, _≤_};
 ghost use lib.ListN.{length, replicate};
-ghost use Rattle.bank.specs.Number.{le32};
+ghost use Rattle.bank.specs.Number.{u32At, le32};
 ghost use Rattle.bank.specs.Write.{over};
 ghost use Rattle.nvram.specs.Part.{entry};
 ghost use Rattle.exports.specs.State.{kindNumber, three, stored, kindOf, entryAt, readState, loaded};
@@ -65,13 +65,20 @@ fn no_load() -> Loaded
     Loaded { ok: false, state }
 }
 
+fn u32_at(bytes: &[u8], at: usize) -> u32
+    requires { ⌜ at + 4 ≤ length (now bytes) ⌝ }
+    ensures { λ r. ⌜ r ≡ u32At (now (bytes .entry)) at ⌝ }
+{
+    bank::u32_of(bytes[at], bytes[at + 1], bytes[at + 2], bytes[at + 3])
+}
+
 fn entry_at(bytes: &[u8]) -> Entry
     requires { ⌜ 12 ≤ length (now bytes) ⌝ }
     ensures { λ r. ⌜ r ≡ entryAt (now (bytes .entry)) ⌝ }
 {
-    let kind = kind_of(bank::u32_at(bytes, 0));
-    let total = bank::u32_at(bytes, 4);
-    let usable = bank::u32_at(bytes, 8);
+    let kind = kind_of(u32_at(bytes, 0));
+    let total = u32_at(bytes, 4);
+    let usable = u32_at(bytes, 8);
     Entry {
         kind,
         total,
@@ -90,16 +97,16 @@ pub(crate) fn load(bytes: &[u8]) -> Loaded
     while i < 16 {
         let at = 12 + 12 * i;
         let rest = &bytes[at..];
-        if 2 < bank::u32_at(rest, 0) {
+        if 2 < u32_at(rest, 0) {
             return no_load();
         }
         banks[i] = entry_at(rest);
         i += 1;
     }
     let state = Nvram {
-        n: bank::u32_at(bytes, 0),
-        active: bank::u32_at(bytes, 4),
-        tally: bank::u32_at(bytes, 8),
+        n: u32_at(bytes, 0),
+        active: u32_at(bytes, 4),
+        tally: u32_at(bytes, 8),
         banks,
     };
     Loaded { ok: true, state }

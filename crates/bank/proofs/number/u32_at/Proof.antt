@@ -2,81 +2,57 @@ use Rattle.bank.specs.Number.{u32At}
 use borrow.Author.Needs.{needs}
 use Rattle.bank.proofs.number.u32_at.Statement.{statement}
 use Rattle.bank.proofs.number.u32_at.Tie as tie
+use Rattle.bank.proofs.number.u32_at.Reads as reads
+use Rattle.bank.proofs.number.u32_at.Lts as lts
+use Rattle.bank.proofs.number.u32_of.Reads as u32-of-reads
 
-shared-slice-read-wide32 : tie.Need-shared-slice-read-wide32
-shared-slice-read-wide32 c = search needs
+-- src/number.rt:37:12
+shared-slice-read-u32-of : tie.Need-shared-slice-read-u32-of
+shared-slice-read-u32-of c = search needs
 
-wide32-requires : tie.Need-wide32-requires
-wide32-requires c κs = search needs
+-- src/number.rt:37:21
+add-u32-of : tie.Need-add-u32-of
+add-u32-of c = search needs
 
-add-wide32 : tie.Need-add-wide32
-add-wide32 c = search needs
+-- src/number.rt:37:19
+shared-slice-read-u32-of-2 : tie.Need-shared-slice-read-u32-of-2
+shared-slice-read-u32-of-2 c = search needs
 
-shared-slice-read-wide32-2 : tie.Need-shared-slice-read-wide32-2
-shared-slice-read-wide32-2 c = search needs
+-- src/number.rt:37:32
+add-u32-of-2 : tie.Need-add-u32-of-2
+add-u32-of-2 c = search needs
 
-wide32-requires-2 : tie.Need-wide32-requires-2
-wide32-requires-2 c κs = search needs
+-- src/number.rt:37:30
+shared-slice-read-u32-of-3 : tie.Need-shared-slice-read-u32-of-3
+shared-slice-read-u32-of-3 c = search needs
 
-mul-result : tie.Need-mul-result
-mul-result c = search needs
+-- src/number.rt:37:43
+add-u32-of-3 : tie.Need-add-u32-of-3
+add-u32-of-3 c = search needs
 
-add-result : tie.Need-add-result
-add-result c = search needs
+-- src/number.rt:37:41
+shared-slice-read-u32-of-4 : tie.Need-shared-slice-read-u32-of-4
+shared-slice-read-u32-of-4 c = search needs
 
-add-wide32-2 : tie.Need-add-wide32-2
-add-wide32-2 c = search needs
+-- src/number.rt:37:5
+u32-of-requires : tie.Need-u32-of-requires
+u32-of-requires c κs = search needs
 
-shared-slice-read-wide32-3 : tie.Need-shared-slice-read-wide32-3
-shared-slice-read-wide32-3 c = search needs
-
-wide32-requires-3 : tie.Need-wide32-requires-3
-wide32-requires-3 c κs = search needs
-
-mul-result-2 : tie.Need-mul-result-2
-mul-result-2 c = search needs
-
-add-result-2 : tie.Need-add-result-2
-add-result-2 c = search needs
-
-add-wide32-3 : tie.Need-add-wide32-3
-add-wide32-3 c = search needs
-
-shared-slice-read-wide32-4 : tie.Need-shared-slice-read-wide32-4
-shared-slice-read-wide32-4 c = search needs
-
-wide32-requires-4 : tie.Need-wide32-requires-4
-wide32-requires-4 c κs = search needs
-
-mul-result-3 : tie.Need-mul-result-3
-mul-result-3 c = search needs
-
-add-result-3 : tie.Need-add-result-3
-add-result-3 c = search needs
-
+-- src/number.rt:33:1
 returns : tie.Need-returns
 unfolding u32At
-returns c = search needs
+returns c = c .u32-of .ensures
 
 pub u32-at-spec : {M : Type 1} → statement M
 u32-at-spec =
     tie.close
     (tie.spec
-    shared-slice-read-wide32
-    wide32-requires
-    add-wide32
-    shared-slice-read-wide32-2
-    wide32-requires-2
-    mul-result
-    add-result
-    add-wide32-2
-    shared-slice-read-wide32-3
-    wide32-requires-3
-    mul-result-2
-    add-result-2
-    add-wide32-3
-    shared-slice-read-wide32-4
-    wide32-requires-4
-    mul-result-3
-    add-result-3
+    shared-slice-read-u32-of
+    add-u32-of
+    shared-slice-read-u32-of-2
+    add-u32-of-2
+    shared-slice-read-u32-of-3
+    add-u32-of-3
+    shared-slice-read-u32-of-4
+    u32-of-requires
     returns)
