@@ -14,6 +14,7 @@ test:
 # SEED=N repeats an earlier run.
 differ:
 	@scripts/judge differ --long $(if $(SEED),--seed $(SEED))
+	@scripts/memcheck
 
 bench:
 	@scripts/judge bench --long

@@ -1,10 +1,13 @@
 //! Rust and port in one process on one input. It prints; it judges no test,
 //! since a machine's load is not the code's fault.
 
+mod blocks;
 mod bytewise;
 mod checksum;
+mod lent;
 mod measure;
 mod partition;
+mod store;
 
 use std::env;
 use std::process::ExitCode;
@@ -38,5 +41,6 @@ fn main() -> ExitCode {
     );
     checksum::run(effort);
     partition::run(effort);
+    store::run(effort);
     ExitCode::SUCCESS
 }

@@ -43,7 +43,7 @@ fn cases() -> [Case; 3] {
 }
 
 /// As many small records as there is room for.
-fn small(room: usize) -> Vec<Record> {
+pub fn small(room: usize) -> Vec<Record> {
     let value = SMALL - RECORD - 5;
     let record = |i: usize| Record::live(format!("{i:04}").as_bytes(), &vec![i as u8; value]);
     (0..room / SMALL).map(record).collect()
@@ -155,7 +155,7 @@ fn large_verdict(name: &str, figures: &[Figures]) -> [String; 2] {
     ]
 }
 
-fn word(ratio: &Figures, most: f64) -> &'static str {
+pub fn word(ratio: &Figures, most: f64) -> &'static str {
     if ratio.median() <= most {
         "met"
     } else {
@@ -163,7 +163,7 @@ fn word(ratio: &Figures, most: f64) -> &'static str {
     }
 }
 
-fn spread(ratio: &Figures) -> String {
+pub fn spread(ratio: &Figures) -> String {
     format!(
         "{:.3} ({:.3} .. {:.3})",
         ratio.median(),

@@ -8,17 +8,21 @@ mod opening;
 mod partition;
 mod rng;
 mod shrink;
+mod store;
 
 use std::env;
+use std::fs;
 use std::process::ExitCode;
 use std::time::{Instant, SystemTime, UNIX_EPOCH};
 
-const USAGE: &str = "usage: differ [--long] [--seed N]
-  --long    many more inputs
-  --seed N  the seed of the random inputs (short: 1; long: taken from the clock)";
+const USAGE: &str = "usage: differ [--long | --memcheck | --write-replay FILE] [--seed N]
+  --long               many more inputs
+  --memcheck           few inputs, with buffers that a memory checker can watch
+  --write-replay FILE  writes the fixed list of the oracle's answers, and compares nothing
+  --seed N             the seed of the random inputs (long: taken from the clock; else 1)";
 
 /// How much to compare.
-#[derive(Clone, Copy, PartialEq)]
+#[derive(Clone, Copy, Debug, PartialEq)]
 pub enum Mode {
     Short,
     Long,
@@ -33,45 +37,87 @@ impl Mode {
     }
 }
 
+/// What to do.
+#[derive(Debug, PartialEq)]
+enum Task {
+    Compare(Mode),
+    Memcheck,
+    WriteReplay(String),
+}
+
+impl Task {
+    fn name(&self) -> &'static str {
+        match self {
+            Task::Compare(mode) => mode.pick("short mode", "long mode"),
+            Task::Memcheck => "for a memory checker",
+            Task::WriteReplay(_) => "the fixed list",
+        }
+    }
+}
+
 fn main() -> ExitCode {
-    let Some((mode, seed)) = arguments(env::args().skip(1)) else {
+    let Some((task, seed)) = arguments(env::args().skip(1)) else {
         eprintln!("{USAGE}");
         return ExitCode::from(2);
     };
-    println!("differ: {} mode, seed {seed}", mode.pick("short", "long"));
+    if let Task::WriteReplay(file) = &task {
+        return ended(write_replay(file));
+    }
+    println!("differ: {}, seed {seed}", task.name());
     let start = Instant::now();
-    match run(mode, seed) {
-        Ok(inputs) => {
-            let seconds = start.elapsed().as_secs_f64();
-            println!("differ: {inputs} inputs in {seconds:.1} s, no difference");
+    let done = run(&task, seed).map(|inputs| {
+        let seconds = start.elapsed().as_secs_f64();
+        format!("{inputs} inputs in {seconds:.1} s, no difference")
+    });
+    ended(done.map_err(|message| format!("{message}\ndiffer: FAILED (seed {seed})")))
+}
+
+fn ended(done: Result<String, String>) -> ExitCode {
+    match done {
+        Ok(message) => {
+            println!("differ: {message}");
             ExitCode::SUCCESS
         }
         Err(message) => {
-            println!("differ: {message}\ndiffer: FAILED (seed {seed})");
+            println!("differ: {message}");
             ExitCode::FAILURE
         }
     }
 }
 
 /// Every comparison; the count of inputs, or what to say of the first difference.
-fn run(mode: Mode, seed: u64) -> Result<u64, String> {
-    opening::run()?;
+fn run(task: &Task, seed: u64) -> Result<u64, String> {
     let mut rng = rng::Rng::new(seed);
+    let mode = match task {
+        Task::Compare(mode) => *mode,
+        _ => return store::memcheck(&mut rng),
+    };
+    opening::run()?;
     let sums = checksum::run(mode, &mut rng).map_err(|difference| difference.to_string())?;
-    Ok(sums + partition::run(mode, &mut rng)?)
+    let banks = partition::run(mode, &mut rng)?;
+    Ok(sums + banks + store::run(mode, &mut rng)?)
 }
 
-fn arguments(mut words: impl Iterator<Item = String>) -> Option<(Mode, u64)> {
-    let (mut mode, mut seed) = (Mode::Short, None);
+fn write_replay(file: &str) -> Result<String, String> {
+    let text = store::replay_text()?;
+    fs::write(file, &text).map_err(|e| format!("{file}: {e}"))?;
+    Ok(format!("{} lines written to {file}", text.lines().count()))
+}
+
+fn arguments(mut words: impl Iterator<Item = String>) -> Option<(Task, u64)> {
+    let (mut task, mut seed) = (Task::Compare(Mode::Short), None);
     while let Some(word) = words.next() {
         match word.as_str() {
-            "--long" => mode = Mode::Long,
+            "--long" => task = Task::Compare(Mode::Long),
+            "--memcheck" => task = Task::Memcheck,
+            "--write-replay" => task = Task::WriteReplay(words.next()?),
             "--seed" => seed = Some(words.next()?.parse().ok()?),
             _ => return None,
         }
     }
     // The short mode is part of the tests and repeats; the long one looks somewhere new.
-    Some((mode, seed.unwrap_or_else(|| mode.pick(1, clock()))))
+    let long = task == Task::Compare(Mode::Long);
+    Some((task, seed.unwrap_or_else(|| if long { clock() } else { 1 })))
 }
 
 fn clock() -> u64 {
@@ -83,16 +129,20 @@ fn clock() -> u64 {
 mod tests {
     use super::*;
 
-    fn parsed(words: &str) -> Option<(Mode, u64)> {
+    fn parsed(words: &str) -> Option<(Task, u64)> {
         arguments(words.split_whitespace().map(String::from))
     }
 
     #[test]
     fn arguments_are_read() {
-        assert!(parsed("") == Some((Mode::Short, 1)));
-        assert!(parsed("--seed 9 --long") == Some((Mode::Long, 9)));
-        assert!(parsed("--seed").is_none());
-        assert!(parsed("--seed x").is_none());
-        assert!(parsed("--wide").is_none());
+        let compare = |mode, seed| Some((Task::Compare(mode), seed));
+        assert_eq!(parsed(""), compare(Mode::Short, 1));
+        assert_eq!(parsed("--seed 9 --long"), compare(Mode::Long, 9));
+        assert_eq!(parsed("--memcheck"), Some((Task::Memcheck, 1)));
+        let list = Task::WriteReplay("list".to_string());
+        assert_eq!(parsed("--write-replay list"), Some((list, 1)));
+        for wrong in ["--seed", "--seed x", "--wide", "--write-replay"] {
+            assert_eq!(parsed(wrong), None);
+        }
     }
 }

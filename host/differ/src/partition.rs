@@ -1,16 +1,16 @@
 //! The reading of banks: the port against the Rust on the domain where both are to be
 //! equal, and against the scope paper's words (01) everywhere.
 
-mod damage;
+pub mod damage;
 mod edges;
 mod lent;
-mod make;
-mod model;
+pub mod make;
+pub mod model;
 mod rust;
-mod smallest;
+pub mod smallest;
 mod tally;
-mod view;
-mod written;
+pub mod view;
+pub mod written;
 
 use image::{Header, BANK};
 

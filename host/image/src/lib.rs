@@ -15,7 +15,7 @@ pub const COMMON_GUID: [u8; 16] = [
 ];
 
 /// A bank's header of good signature; by default a sound one of a whole bank.
-#[derive(Clone)]
+#[derive(Clone, Debug, PartialEq)]
 pub struct Header {
     pub size: u32,
     pub generation: u32,
@@ -55,7 +55,7 @@ impl Header {
 }
 
 /// A record with its right lengths and checksum; by default a live system record, empty.
-#[derive(Clone)]
+#[derive(Clone, Debug, PartialEq)]
 pub struct Record {
     pub state: u8,
     pub reserved: u8,
@@ -115,9 +115,10 @@ pub fn bank(header: &Header, records: &[Record]) -> Vec<u8> {
 
 /// All bytes are 0xFF.
 pub fn is_erased(bytes: &[u8]) -> bool {
-    // A piece at a time, so that it is quick over a whole bank.
-    let both = |piece: &[u8]| piece.iter().fold(0xFF, |a, b| a & b);
-    bytes.chunks(64).all(|piece| both(piece) == 0xFF)
+    // In blocks of one length and without an early exit in them, which makes vector code.
+    let all = |block: &[u8]| block.iter().fold(0xFF, |a, b| a & b) == 0xFF;
+    let mut blocks = bytes.chunks_exact(1024);
+    blocks.all(all) && all(blocks.remainder())
 }
 
 /// The little-endian number of four bytes at `at`.
@@ -144,5 +145,20 @@ mod tests {
         assert_eq!(number(&made, 24 + 32), 0xCBF4_3926);
         assert_eq!(&made[60..74], b"rate\x00123456789");
         assert!(is_erased(&made[74..]) && !is_erased(&made[73..]));
+    }
+
+    #[test]
+    fn a_byte_at_either_end_of_a_block_is_seen() {
+        for len in [0, 1, 1023, 1024, 1025, 5000] {
+            let mut bytes = vec![0xFF; len];
+            assert!(is_erased(&bytes));
+            for at in [0, 1023, 1024, len.saturating_sub(1)] {
+                if let Some(byte) = bytes.get_mut(at) {
+                    *byte = 0xFE;
+                    assert!(!is_erased(&bytes), "{at} of {len}");
+                    bytes[at] = 0xFF;
+                }
+            }
+        }
     }
 }

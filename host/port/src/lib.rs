@@ -4,9 +4,14 @@
 //! A slice of Rattle is two C parameters, a pointer and a length; a reference
 //! to an array is one pointer.
 
+pub mod lent;
 mod partition;
+mod refusal;
+mod store;
 
 pub use partition::{partition_parse, partition_serialize, Partition, Slot};
+pub use refusal::Refusal;
+pub use store::{Store, VarType};
 
 /// Entries of the checksum's tables: 16 rows of 256.
 const TABLE_ENTRIES: usize = 4096;

@@ -17,7 +17,7 @@ pub fn read(image: &[u8]) -> Result<Slot<'_>, String> {
 
 fn opened(image: &[u8]) -> Result<Slot<'_>, String> {
     let store = v3::Nvram::parse(image).map_err(|e| format!("it refuses the image: {e:?}"))?;
-    if let [bank, _] = valid_banks(&store)[..] {
+    if let [bank, _] = peek::valid_banks(&store)[..] {
         let bank = view(bank)?;
         written_back(&store, &bank)?;
         return Ok(Slot::Valid(bank));
@@ -28,17 +28,6 @@ fn opened(image: &[u8]) -> Result<Slot<'_>, String> {
         Some(slots) if slots.starts_with("Invalid, ") => Ok(Slot::Invalid),
         _ => Err(format!("it answers {text}")),
     }
-}
-
-/// The Valid banks with their public fields, which the trait hides.
-fn valid_banks<'s, 'a>(store: &'s v3::Nvram<'a>) -> Vec<&'s v3::Partition<'a>> {
-    let banks = Nvram::partitions(store).map(|bank| {
-        let bank: *const (dyn oracle::Partition<'a> + 's) = bank;
-        // SAFETY: a `v3::Nvram` lends the `v3::Partition`s that it holds and nothing else,
-        // so this is the type behind the pointer; it lives as long as the store is lent.
-        unsafe { &*bank.cast::<v3::Partition<'a>>() }
-    });
-    banks.collect()
 }
 
 fn view<'a>(bank: &v3::Partition<'a>) -> Result<Bank<'a>, String> {

@@ -1,0 +1,123 @@
+// A line's call on the store, and whether it answers what the line says.
+use super::fields::decimal;
+use super::fields::field;
+use super::fields::hex;
+use super::fields::put_bytes;
+use bank::VarType;
+use nvram::Edited;
+use nvram::Entry;
+use nvram::Kind;
+use nvram::Lookup;
+use nvram::Nvram;
+ghost use mathlib.Core.Path.{_≡_};
+ghost use Prim.Native.Nat.{_≤_, _<_};
+ghost use lib.ListN.{length};
+
+fn key_room() -> [u8; 64]
+    ensures { λ r. ⌜ 64 ≡ length r ⌝ }
+{
+    [0; 64]
+}
+
+fn value_room() -> [u8; 131072]
+    ensures { λ r. ⌜ 131072 ≡ length r ⌝ }
+{
+    [0; 131072]
+}
+
+fn typ(line: &[u8]) -> VarType {
+    if decimal(line, 1) == 0 {
+        VarType::Common
+    } else {
+        VarType::System
+    }
+}
+
+// The value of an insert: its bytes, COUNT times.
+fn put_value(line: &[u8], out: &mut [u8]) -> usize
+    ensures { λ r. ⌜ r ≤ length (now (out .exit)) ⌝ }
+{
+    let count = decimal(line, 3);
+    let mut at: usize = 0;
+    let mut k: u64 = 0;
+    while k < count {
+        at = put_bytes(out, at, field(line, 4));
+        k += 1;
+    }
+    at
+}
+
+pub(crate) fn insert(state: Nvram, work: &mut [u8], line: &[u8]) -> Edited {
+    let mut key = key_room();
+    let k = put_bytes(&mut key, 0, field(line, 2));
+    let mut value = value_room();
+    let n = put_value(line, &mut value);
+    state.insert_variable(work, &key[0..k], &value[0..n], typ(line))
+}
+
+pub(crate) fn remove(state: Nvram, work: &mut [u8], line: &[u8]) -> Edited {
+    let mut key = key_room();
+    let k = put_bytes(&mut key, 0, field(line, 2));
+    state.remove_variable(work, &key[0..k], typ(line))
+}
+
+fn told(line: &[u8], number: u64, found: u64, place: u64, long: u64) -> bool {
+    (decimal(line, 3) == number)
+        & (decimal(line, 4) == found)
+        & (decimal(line, 5) == place)
+        & (decimal(line, 6) == long)
+}
+
+pub(crate) fn lookup_right(state: Nvram, work: &[u8], line: &[u8]) -> bool {
+    let mut key = key_room();
+    let k = put_bytes(&mut key, 0, field(line, 2));
+    match state.get_variable(work, &key[0..k], typ(line)) {
+        Lookup::At(place, long) => told(line, 0, 1, place as u64, long as u64),
+        Lookup::Nothing => told(line, 0, 0, 0, 0),
+        Lookup::Refused(number) => told(line, number as u64, 0, 0, 0),
+    }
+}
+
+pub(crate) fn value_right(state: Nvram, work: &[u8], line: &[u8]) -> bool {
+    let mut key = key_room();
+    let k = put_bytes(&mut key, 0, field(line, 2));
+    let value = state.value(work, &key[0..k], typ(line));
+    (decimal(line, 3) == value.len() as u64) & (hex(line, 4) == crc32::crc32(value) as u64)
+}
+
+fn kind_number(kind: Kind) -> u64 {
+    match kind {
+        Kind::Empty => 0,
+        Kind::Invalid => 1,
+        Kind::Valid => 2,
+    }
+}
+
+// Bank i's three numbers; those of banks that the line does not have are 0.
+fn entry_right(line: &[u8], i: usize, entry: Entry) -> bool
+    requires { ⌜ i < 16 ⌝ }
+{
+    let at = 4 + 3 * i;
+    let kind = entry.kind;
+    (decimal(line, at) == kind_number(kind))
+        & (decimal(line, at + 1) == entry.total as u64)
+        & (decimal(line, at + 2) == entry.usable as u64)
+}
+
+pub(crate) fn state_right(state: Nvram, line: &[u8]) -> bool {
+    let banks = state.banks;
+    let mut right = (decimal(line, 1) == state.n as u64)
+        & (decimal(line, 2) == state.active as u64)
+        & (decimal(line, 3) == state.tally as u64);
+    let mut i: usize = 0;
+    while i < 16 {
+        let entry = banks[i];
+        right = right & entry_right(line, i, entry);
+        i += 1;
+    }
+    right
+}
+
+pub(crate) fn work_right(state: Nvram, work: &[u8], line: &[u8]) -> bool {
+    (work.len() == state.n as usize * 131072) & (hex(line, 1) == crc32::crc32(work) as u64)
+}

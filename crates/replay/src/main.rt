@@ -1,0 +1,90 @@
+// Replays the runs of standard input on the store and compares with the answers of the original Rust: a line a run, then the count.
+// The list says its own format, and how it was made.
+mod calls;
+mod fields;
+mod run;
+
+use fields::end;
+use fields::field;
+use libc::STDIN_FILENO;
+use libc::STDOUT_FILENO;
+use run::FEED;
+use run::behind;
+use run::letter;
+use run::run;
+use std::num::wrapping_add_u64;
+ghost use mathlib.Core.Path.{_≡_};
+ghost use lib.ListN.{length};
+
+struct Tally {
+    right: u64,
+    wrong: u64,
+}
+
+impl Tally {
+    fn add(self, right: bool) -> Tally {
+        if right {
+            Tally {
+                right: wrapping_add_u64(self.right, 1),
+                wrong: self.wrong,
+            }
+        } else {
+            Tally {
+                right: self.right,
+                wrong: wrapping_add_u64(self.wrong, 1),
+            }
+        }
+    }
+}
+
+fn image() -> [u8; 262144]
+    ensures { λ r. ⌜ 262144 ≡ length r ⌝ }
+{
+    [0; 262144]
+}
+
+fn work() -> [u8; 393216]
+    ensures { λ r. ⌜ 393216 ≡ length r ⌝ }
+{
+    [0; 393216]
+}
+
+fn report(line: &[u8], right: bool) {
+    if right {
+        io::write_all(STDOUT_FILENO, b"right ");
+    } else {
+        io::write_all(STDOUT_FILENO, b"WRONG ");
+    }
+    io::write_all(STDOUT_FILENO, field(line, 1));
+    io::write_all(STDOUT_FILENO, b"\n");
+}
+
+// Every run of the text; what stands before the first is for the reader.
+fn replay(text: &[u8], image: &mut [u8], work: &mut [u8]) -> Tally {
+    let mut tally = Tally { right: 0, wrong: 0 };
+    let mut at: usize = 0;
+    while at < text.len() {
+        let e = end(text, at, FEED);
+        let line = &text[at..e];
+        at = behind(text, e);
+        if letter(line) == b'R' {
+            let ran = run(text, at, image, work);
+            report(line, ran.right);
+            tally = tally.add(ran.right);
+            at = ran.to;
+        }
+    }
+    tally
+}
+
+fn main() {
+    let mut text = io::large_buffer();
+    let mut image = image();
+    let mut work = work();
+    let n = io::read_full(STDIN_FILENO, &mut text);
+    let tally = replay(&text[..n], &mut image, &mut work);
+    io::print_decimal(STDOUT_FILENO, tally.right);
+    io::write_all(STDOUT_FILENO, b" right, ");
+    io::print_decimal(STDOUT_FILENO, tally.wrong);
+    io::write_all(STDOUT_FILENO, b" wrong\n");
+}

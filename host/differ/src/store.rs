@@ -1,0 +1,121 @@
+//! The store: openings and lists of calls on the Rust, on the port and by the words of the
+//! scope paper (01); then the port alone, on states and work areas that nobody made.
+
+mod book;
+mod call;
+mod edges;
+mod fixed;
+mod fuzz;
+mod least;
+mod lent;
+mod make;
+mod replay;
+mod run;
+mod rust;
+mod same;
+mod smallest;
+mod sound;
+mod spoil;
+mod state;
+mod tally;
+mod told;
+mod wrapper;
+
+use crate::rng::Rng;
+use crate::Mode;
+use lent::{Calls, Port, Standing};
+use run::Run;
+use tally::Tally;
+
+pub use replay::text as replay_text;
+
+type Outcome = Result<(), String>;
+
+/// Runs every part and answers how many runs and fuzzed calls there were.
+pub fn run(mode: Mode, rng: &mut Rng) -> Result<u64, String> {
+    let mut judge = Judge::new(&Port);
+    judge.part("at the lengths' edges", |j| j.edges())?;
+    judge.part("the fixed list", |j| j.fixed())?;
+    let count = mode.pick(600, 24_000);
+    judge.part("random", |j| j.random(count, rng))?;
+    let fuzzed = fuzz::run(&Port, mode.pick(4_000, 200_000), Standing::Guarded(3), rng)?;
+    Ok(judge.tally.all_runs() + fuzzed)
+}
+
+/// A few runs and fuzzed calls on buffers that stand alone, for a memory checker.
+pub fn memcheck(rng: &mut Rng) -> Result<u64, String> {
+    let mut judge = Judge::new(&Port);
+    judge.part("alone in memory", |j| {
+        (0..MEMCHECKED).try_for_each(|_| {
+            let mut run = make::run(rng);
+            run.standing = Standing::Alone;
+            j.judge(&run)
+        })
+    })?;
+    let fuzzed = fuzz::run(&Port, 10 * MEMCHECKED, Standing::Alone, rng)?;
+    Ok(judge.tally.all_runs() + fuzzed)
+}
+
+/// Runs under a memory checker, which is slow.
+const MEMCHECKED: usize = 40;
+
+struct Judge<'a> {
+    port: &'a dyn Calls,
+    tally: Tally,
+}
+
+impl<'a> Judge<'a> {
+    fn new(port: &'a dyn Calls) -> Self {
+        let tally = Tally::default();
+        Judge { port, tally }
+    }
+
+    /// Runs one part and prints what it compared.
+    fn part(&mut self, name: &str, run: impl FnOnce(&mut Self) -> Outcome) -> Outcome {
+        let before = std::mem::take(&mut self.tally);
+        run(self)?;
+        println!("differ: store: {name}: {}", self.tally);
+        self.tally += before;
+        Ok(())
+    }
+
+    fn edges(&mut self) -> Outcome {
+        edges::all().iter().try_for_each(|e| self.judge(&e.run()))
+    }
+
+    fn fixed(&mut self) -> Outcome {
+        replay::runs().iter().try_for_each(|run| self.judge(run))
+    }
+
+    fn random(&mut self, count: usize, rng: &mut Rng) -> Outcome {
+        (0..count).try_for_each(|i| {
+            let run = make::run(rng);
+            if i % 4 == 0 {
+                wrapper::compare(&run).map_err(|fault| wrong(&run, &fault))?;
+            }
+            self.judge(&run)
+        })
+    }
+
+    /// One run on all sides; on a difference looks for the smallest run that shows it.
+    fn judge(&mut self, run: &Run) -> Outcome {
+        let first = match run::compare(run, self.port) {
+            Ok(tally) => {
+                self.tally += tally;
+                return Ok(());
+            }
+            Err(first) => first,
+        };
+        let least = smallest::smallest(run, |r| run::compare(r, self.port).is_err());
+        let answers = run::compare(&least, self.port).err().unwrap_or(first);
+        Err(wrong(&least, &answers))
+    }
+}
+
+fn wrong(run: &Run, answers: &str) -> String {
+    let shown = smallest::shown(run);
+    format!("DIFFERENCE in a run of the store\n{shown}\n{answers}")
+}
+
+#[cfg(test)]
+mod tests;

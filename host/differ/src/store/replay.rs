@@ -1,0 +1,158 @@
+//! A fixed list of runs with the oracle's answers, as text: what the port does can be held
+//! against it where the Rust is not at hand.
+
+use std::fmt::Write;
+
+use image::BANK;
+
+use super::call::{Answer, Call, What};
+use super::fixed;
+use super::run::Run;
+use super::rust::Rust;
+
+const HEAD: &str = "\
+# Runs of the store with the answers of asahi-nvram's v3.rs, built unchanged (host/oracle).
+# Made by `differ --write-replay FILE` from the list in host/differ/src/store/fixed.rs, with no
+# random number in it; `make test` makes it again and compares. Only calls that the Rust accepts
+# are in it: it has no work area, no state and no refusal but that of an image. State and work
+# area are those that its records amount to (header, records as written, 0xFF behind them).
+#
+# A line is a letter and fields, one space between. Numbers are decimal; bytes and checksums
+# (CRC-32, eight digits) are hexadecimal, `-` for no bytes. A line with # is for the reader.
+#   R NAME             a run begins
+#   B FILL BYTES       a bank of the image: the bytes, then FILL up to 65,536 bytes
+#   T COUNT FILL BYTES COUNT bytes behind the banks, as a bank's; the image is complete
+#   O NUMBER           the opening's answer, with 131,072 bytes of work area for each bank
+#   I TYPE KEY COUNT BYTES NUMBER       insert; the value is the bytes COUNT times
+#   D TYPE KEY NUMBER                   remove
+#   L TYPE KEY NUMBER FOUND PLACE LENGTH
+#   V TYPE KEY LENGTH CRC               the value itself
+#   S N ACTIVE TALLY   the state after an opening or an edit, and for each bank KIND (0 Empty,
+#                      1 Invalid, 2 Valid), TOTAL, USABLE
+#   W CRC              the work area after it, N times 131,072 bytes
+";
+
+/// The runs, for the port to be held against too.
+pub fn runs() -> Vec<Run> {
+    let list = fixed::list();
+    list.into_iter().map(|(_, run)| run).collect()
+}
+
+/// The whole list with the oracle's answers.
+pub fn text() -> Result<String, String> {
+    let mut out = HEAD.to_string();
+    for (name, run) in fixed::list() {
+        let place = |fault: String| format!("{name}: {fault}");
+        out.push_str(&format!("R {name}\n{}", image_lines(&run.image)));
+        out.push_str(&answers(&run).map_err(place)?);
+    }
+    Ok(out)
+}
+
+fn image_lines(image: &[u8]) -> String {
+    let banks = image.chunks_exact(BANK);
+    let rest = banks.remainder();
+    let lines = banks.map(|bank| format!("B {}\n", filled(bank)));
+    let mut out: String = lines.collect();
+    let _ = writeln!(out, "T {} {}", rest.len(), filled(rest));
+    out
+}
+
+/// The byte at the end, and the bytes before its run.
+fn filled(all: &[u8]) -> String {
+    let fill = all.last().copied().unwrap_or(0);
+    let last = all.iter().rposition(|&b| b != fill);
+    let front = &all[..last.map_or(0, |at| at + 1)];
+    format!("{fill:02X} {}", bytes(front))
+}
+
+fn answers(run: &Run) -> Result<String, String> {
+    let Some(mut rust) = Rust::open(&run.image)? else {
+        // The Rust has one word for both: an image without a bank has no Valid one.
+        let number = if run.image.len() < BANK { 1 } else { 4 };
+        return Ok(format!("O {number}\nS 0 0 0\n"));
+    };
+    let mut out = format!("O 0\n{}", left(&rust));
+    for call in &run.calls {
+        let answer = rust.answer(call)?;
+        out.push_str(&line(call, &answer, &mut rust)?);
+    }
+    Ok(out)
+}
+
+fn line(call: &Call, answer: &Answer, rust: &mut Rust) -> Result<String, String> {
+    let named = format!("{} {}", call.typ, bytes(&call.key));
+    Ok(match (&call.what, answer) {
+        (What::Insert(value), Answer::Number(number)) => {
+            let value = repeated(value);
+            format!("I {named} {value} {number}\n{}", left(rust))
+        }
+        (What::Remove, Answer::Number(number)) => {
+            format!("D {named} {number}\n{}", left(rust))
+        }
+        (What::Lookup, Answer::Lookup(number, [found, place, length])) => {
+            format!("L {named} {number} {found} {place} {length}\n")
+        }
+        (What::Value(_), Answer::Value(length, value)) if length <= &value.len() => {
+            let crc = crc32fast::hash(&value[..*length]);
+            format!("V {named} {length} {crc:08X}\n")
+        }
+        _ => return Err(format!("{call}: {answer}")),
+    })
+}
+
+/// State and work area after an opening or an edit.
+fn left(rust: &Rust) -> String {
+    let state = rust.state(0);
+    let mut out = format!("S {} {} {}", state.n, state.active, state.tally);
+    for entry in &state.entries[..state.n as usize] {
+        let _ = write!(out, " {} {} {}", entry.kind, entry.total, entry.usable);
+    }
+    let _ = write!(out, "\nW {:08X}\n", crc32fast::hash(&rust.work()));
+    out
+}
+
+fn bytes(bytes: &[u8]) -> String {
+    match bytes {
+        [] => "-".to_string(),
+        _ => bytes.iter().map(|b| format!("{b:02X}")).collect(),
+    }
+}
+
+/// Many bytes of one value are that byte many times.
+fn repeated(value: &[u8]) -> String {
+    match value {
+        [first, rest @ ..] if rest.len() > 8 && rest.iter().all(|b| b == first) => {
+            format!("{} {first:02X}", value.len())
+        }
+        _ => format!("1 {}", bytes(value)),
+    }
+}
+
+#[cfg(test)]
+mod tests {
+    use super::*;
+
+    const KEPT: &str = include_str!("../../../../crates/replay/stdin");
+
+    #[test]
+    fn the_list_in_the_repository_is_the_one_made_here() {
+        let made = text().unwrap();
+        let mut lines = made.lines().zip(KEPT.lines());
+        assert_eq!(lines.find(|(made, kept)| made != kept), None);
+        assert_eq!(made.len(), KEPT.len());
+    }
+
+    #[test]
+    fn bytes_are_written_short() {
+        assert_eq!(
+            (repeated(b""), repeated(b"abc")),
+            ("1 -".into(), "1 616263".into())
+        );
+        assert_eq!(repeated(&[65; 70_000]), "70000 41");
+        let mut image = vec![0xFF; BANK + 3];
+        image[..2].copy_from_slice(&[1, 0xAB]);
+        assert_eq!(image_lines(&image), "B FF 01AB\nT 3 FF -\n");
+        assert_eq!(image_lines(&[0; BANK]), "B 00 -\nT 0 00 -\n");
+    }
+}

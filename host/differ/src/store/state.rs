@@ -1,0 +1,97 @@
+//! The state's bytes: n, active and tally, then kind, total and usable of 16 banks, each a
+//! little-endian number of four bytes.
+
+use std::fmt::{self, Display, Formatter};
+
+use image::{number, put_number};
+
+/// Bytes of a state.
+pub const STATE: usize = 204;
+/// Entries of its table.
+pub const ENTRIES: usize = 16;
+
+pub const EMPTY: u32 = 0;
+pub const INVALID: u32 = 1;
+pub const VALID: u32 = 2;
+
+/// A state's numbers, whatever they are.
+#[derive(Clone, Copy, Debug, Default, PartialEq)]
+pub struct State {
+    pub n: u32,
+    pub active: u32,
+    pub tally: u32,
+    pub entries: [Entry; ENTRIES],
+}
+
+#[derive(Clone, Copy, Debug, Default, PartialEq)]
+pub struct Entry {
+    pub kind: u32,
+    pub total: u32,
+    pub usable: u32,
+}
+
+impl State {
+    /// The numbers in the first 204 bytes, if there are as many.
+    pub fn read(bytes: &[u8]) -> Option<State> {
+        let bytes = bytes.get(..STATE)?;
+        let entry = |i: usize| Entry {
+            kind: number(bytes, 12 + 12 * i),
+            total: number(bytes, 16 + 12 * i),
+            usable: number(bytes, 20 + 12 * i),
+        };
+        let mut entries = [Entry::default(); ENTRIES];
+        entries
+            .iter_mut()
+            .enumerate()
+            .for_each(|(i, e)| *e = entry(i));
+        Some(State {
+            n: number(bytes, 0),
+            active: number(bytes, 4),
+            tally: number(bytes, 8),
+            entries,
+        })
+    }
+
+    pub fn bytes(&self) -> [u8; STATE] {
+        let mut out = [0; STATE];
+        let entries = self
+            .entries
+            .iter()
+            .flat_map(|e| [e.kind, e.total, e.usable]);
+        let numbers = [self.n, self.active, self.tally].into_iter().chain(entries);
+        for (i, number) in numbers.enumerate() {
+            put_number(&mut out, 4 * i, number);
+        }
+        out
+    }
+}
+
+impl Display for State {
+    fn fmt(&self, f: &mut Formatter) -> fmt::Result {
+        write!(f, "n {}, active {}, ", self.n, self.active)?;
+        write!(f, "tally {}", self.tally)?;
+        let entries = self.entries.iter().enumerate();
+        for (i, e) in entries.filter(|(_, e)| **e != Entry::default()) {
+            write!(f, "; {i}: kind {}, ", e.kind)?;
+            write!(f, "total {}, usable {}", e.total, e.usable)?;
+        }
+        Ok(())
+    }
+}
+
+#[cfg(test)]
+mod tests {
+    use super::*;
+
+    #[test]
+    fn numbers_have_their_places() {
+        let mut state = State::default();
+        (state.n, state.active, state.tally) = (2, 1, 9);
+        state.entries[15].usable = 0x0102_0304;
+        let bytes = state.bytes();
+        assert_eq!(bytes[..12], [2, 0, 0, 0, 1, 0, 0, 0, 9, 0, 0, 0]);
+        assert_eq!(bytes[200..], [4, 3, 2, 1]);
+        assert_eq!(State::read(&bytes), Some(state));
+        assert_eq!(State::read(&bytes[1..]), None);
+    }
+}

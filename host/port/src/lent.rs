@@ -1,0 +1,119 @@
+//! The store's calls on lent bytes, with the numbers that they answer.
+//!
+//! `Store` is what a program uses; these take any bytes at all, and refuse what is not sound.
+
+/// Bytes of a state.
+pub const STATE: usize = 204;
+/// Bytes of work area for each bank.
+pub const PART: usize = 131_072;
+
+extern "C" {
+    fn feqyondil_open(
+        image: *const u8,
+        image_len: usize,
+        state: *mut u8,
+        state_len: usize,
+        work: *mut u8,
+        work_len: usize,
+    ) -> u32;
+    fn feqyondil_insert(
+        state: *mut u8,
+        state_len: usize,
+        work: *mut u8,
+        work_len: usize,
+        key: *const u8,
+        key_len: usize,
+        value: *const u8,
+        value_len: usize,
+        typ: u32,
+    ) -> u32;
+    fn feqyondil_remove(
+        state: *const u8,
+        state_len: usize,
+        work: *mut u8,
+        work_len: usize,
+        key: *const u8,
+        key_len: usize,
+        typ: u32,
+    ) -> u32;
+    fn feqyondil_lookup(
+        state: *const u8,
+        state_len: usize,
+        work: *const u8,
+        work_len: usize,
+        key: *const u8,
+        key_len: usize,
+        typ: u32,
+        out: *mut [u64; 3],
+    ) -> u32;
+    fn feqyondil_value(
+        state: *const u8,
+        state_len: usize,
+        work: *const u8,
+        work_len: usize,
+        key: *const u8,
+        key_len: usize,
+        typ: u32,
+        out: *mut u8,
+        out_len: usize,
+    ) -> usize;
+}
+
+// SAFETY: of each call below, every pointer and length are those of one live slice; what the
+// port writes is lent for writing, so it is apart from everything else that is lent; the
+// array has the length that the port writes.
+
+/// Opens `image`: 0, or a refusal from 1 to 4; 6 where `state` is too short.
+pub fn open(image: &[u8], state: &mut [u8], work: &mut [u8]) -> u32 {
+    let (image, image_len) = (image.as_ptr(), image.len());
+    let (state, state_len) = (state.as_mut_ptr(), state.len());
+    let (work, work_len) = (work.as_mut_ptr(), work.len());
+    // SAFETY: as above.
+    unsafe { feqyondil_open(image, image_len, state, state_len, work, work_len) }
+}
+
+/// Inserts a record of type `typ`, 0 for Common: 0, 6, 7 or 8.
+pub fn insert(state: &mut [u8], work: &mut [u8], key: &[u8], value: &[u8], typ: u32) -> u32 {
+    let (state, state_len) = (state.as_mut_ptr(), state.len());
+    let (work, work_len) = (work.as_mut_ptr(), work.len());
+    let (key, key_len) = (key.as_ptr(), key.len());
+    let (value, value_len) = (value.as_ptr(), value.len());
+    // SAFETY: as above.
+    unsafe {
+        feqyondil_insert(
+            state, state_len, work, work_len, key, key_len, value, value_len, typ,
+        )
+    }
+}
+
+/// Removes the live records of `key` and `typ`: 0, 6 or 7. The state stays as it is.
+pub fn remove(state: &[u8], work: &mut [u8], key: &[u8], typ: u32) -> u32 {
+    let (state, state_len) = (state.as_ptr(), state.len());
+    let (work, work_len) = (work.as_mut_ptr(), work.len());
+    let (key, key_len) = (key.as_ptr(), key.len());
+    // SAFETY: as above.
+    unsafe { feqyondil_remove(state, state_len, work, work_len, key, key_len, typ) }
+}
+
+/// Looks a value up: 0, 6 or 7; `out` becomes found (1 or 0), place in `work`, length.
+pub fn lookup(state: &[u8], work: &[u8], key: &[u8], typ: u32, out: &mut [u64; 3]) -> u32 {
+    let (state, state_len) = (state.as_ptr(), state.len());
+    let (work, work_len) = (work.as_ptr(), work.len());
+    let (key, key_len) = (key.as_ptr(), key.len());
+    // SAFETY: as above.
+    unsafe { feqyondil_lookup(state, state_len, work, work_len, key, key_len, typ, out) }
+}
+
+/// The value's length, 0 where there is none; the value goes over `out` as far as it reaches.
+pub fn value(state: &[u8], work: &[u8], key: &[u8], typ: u32, out: &mut [u8]) -> usize {
+    let (state, state_len) = (state.as_ptr(), state.len());
+    let (work, work_len) = (work.as_ptr(), work.len());
+    let (key, key_len) = (key.as_ptr(), key.len());
+    let (out, out_len) = (out.as_mut_ptr(), out.len());
+    // SAFETY: as above.
+    unsafe {
+        feqyondil_value(
+            state, state_len, work, work_len, key, key_len, typ, out, out_len,
+        )
+    }
+}
