@@ -5,10 +5,9 @@ use nvram::Nvram;
 ghost use mathlib.Core.Path.{_≡_};
 ghost use mathlib.Core.Option.{none};
 ghost use Prim.Native.Nat.{_+_, _≤_};
-ghost use lib.ListN.{length, replicate};
+ghost use lib.ListN.{length};
 ghost use Rattle.bank.specs.Number.{u32At, le32};
 ghost use Rattle.bank.specs.Write.{over};
-ghost use Rattle.nvram.specs.Part.{entry};
 ghost use Rattle.exports.specs.State.{kindNumber, three, stored, kindOf, entryAt, readState, loaded};
 
 pub(crate) const STATE: usize = 204;
@@ -41,21 +40,10 @@ fn kind_number(kind: Kind) -> u32
     }
 }
 
-fn no_banks() -> [Entry; 16]
-    ensures { λ r. ⌜ r ≡ replicate 16 (entry Kind.Empty 0 0) ⌝ }
-{
-    let none = Entry {
-        kind: Kind::Empty,
-        total: 0,
-        usable: 0,
-    };
-    [none; 16]
-}
-
 fn no_load() -> Loaded
     ensures { λ r. ⌜ r ≡ loaded none ⌝ }
 {
-    let banks = no_banks();
+    let banks = nvram::no_banks();
     let state = Nvram {
         n: 0,
         active: 0,
@@ -92,7 +80,7 @@ pub(crate) fn load(bytes: &[u8]) -> Loaded
     if bytes.len() < STATE {
         return no_load();
     }
-    let mut banks = no_banks();
+    let mut banks = nvram::no_banks();
     let mut i: usize = 0;
     while i < 16 {
         let at = 12 + 12 * i;

@@ -10,6 +10,7 @@ mod state;
 pub use edit::Edited;
 pub use lookup::Lookup;
 pub use opening::Opened;
+pub use opening::no_banks;
 pub use state::Entry;
 pub use state::Kind;
 pub use state::Nvram;

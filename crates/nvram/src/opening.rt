@@ -31,7 +31,8 @@ struct Best {
     generation: u32,
 }
 
-fn no_banks() -> [Entry; 16]
+// A table of Empty slots.
+pub fn no_banks() -> [Entry; 16]
     ensures { λ r. ⌜ r ≡ replicate 16 (entry Kind.Empty 0 0) ⌝ }
 {
     let none = Entry {
