@@ -1,7 +1,7 @@
 // Compares both forms of the checksum with the published CRC-32 vectors, and with zlib's values at lengths around each boundary of the
 // forms: a line a vector, then the count.
 use libc::STDOUT_FILENO;
-use std::num::wrapping_add_u64;
+use tally::Tally;
 
 // zlib's CRC-32 of the bytes 0, 1, 2, .., 255, 0, .. up to each length; that of 32 is published too.
 const LENGTHS: [usize; 26] = [
@@ -61,27 +61,6 @@ const CRCS: [u32; 26] = [
     0xA2912082,
     0xD1169CA1,
 ];
-
-struct Tally {
-    right: u64,
-    wrong: u64,
-}
-
-impl Tally {
-    fn add(self, right: bool) -> Tally {
-        if right {
-            Tally {
-                right: wrapping_add_u64(self.right, 1),
-                wrong: self.wrong,
-            }
-        } else {
-            Tally {
-                right: self.right,
-                wrong: wrapping_add_u64(self.wrong, 1),
-            }
-        }
-    }
-}
 
 // Both forms against the value, and the start of the line that says so.
 fn compare(t: &[u32; 4096], bytes: &[u8], want: u32) -> bool {
@@ -176,8 +155,5 @@ fn lengths(start: Tally, t: &[u32; 4096]) -> Tally {
 fn main() {
     let t = crc32::tables();
     let tally = lengths(published(&t), &t);
-    io::print_decimal(STDOUT_FILENO, tally.right);
-    io::write_all(STDOUT_FILENO, b" right, ");
-    io::print_decimal(STDOUT_FILENO, tally.wrong);
-    io::write_all(STDOUT_FILENO, b" wrong\n");
+    tally.print();
 }

@@ -12,30 +12,9 @@ use run::FEED;
 use run::behind;
 use run::letter;
 use run::run;
-use std::num::wrapping_add_u64;
+use tally::Tally;
 ghost use mathlib.Core.Path.{_≡_};
 ghost use lib.ListN.{length};
-
-struct Tally {
-    right: u64,
-    wrong: u64,
-}
-
-impl Tally {
-    fn add(self, right: bool) -> Tally {
-        if right {
-            Tally {
-                right: wrapping_add_u64(self.right, 1),
-                wrong: self.wrong,
-            }
-        } else {
-            Tally {
-                right: self.right,
-                wrong: wrapping_add_u64(self.wrong, 1),
-            }
-        }
-    }
-}
 
 fn image() -> [u8; 262144]
     ensures { λ r. ⌜ 262144 ≡ length r ⌝ }
@@ -83,8 +62,5 @@ fn main() {
     let mut work = work();
     let n = io::read_full(STDIN_FILENO, &mut text);
     let tally = replay(&text[..n], &mut image, &mut work);
-    io::print_decimal(STDOUT_FILENO, tally.right);
-    io::write_all(STDOUT_FILENO, b" right, ");
-    io::print_decimal(STDOUT_FILENO, tally.wrong);
-    io::write_all(STDOUT_FILENO, b" wrong\n");
+    tally.print();
 }

@@ -11,8 +11,6 @@ use super::fields::field;
 use super::fields::hex;
 use super::fields::put_bytes;
 use nvram::Edited;
-use nvram::Entry;
-use nvram::Kind;
 use nvram::Nvram;
 use std::num::wrapping_add_usize;
 ghost use Prim.Native.Nat.{ℕ, _≤_, _<_};
@@ -35,16 +33,11 @@ pub(crate) struct Ran {
 
 // Before the first line: no image and no banks.
 fn fresh() -> Walk {
-    let none = Entry {
-        kind: Kind::Empty,
-        total: 0,
-        usable: 0,
-    };
     let state = Nvram {
         n: 0,
         active: 0,
         tally: 0,
-        banks: [none; 16],
+        banks: nvram::no_banks(),
     };
     Walk {
         right: true,

@@ -101,7 +101,8 @@ fn meet(bank: &[u8], size: usize, offset: usize) -> Met<'_> {
     Met::Record(record, len)
 }
 
-fn header(bank: &[u8]) -> Header {
+/// The fields of the header that begins `bank`.
+pub fn header(bank: &[u8]) -> Header {
     Header {
         size: number(bank, 4),
         generation: number(bank, 8),
@@ -112,7 +113,8 @@ fn header(bank: &[u8]) -> Header {
     }
 }
 
-fn record<'a>(head: &'a [u8], key: &'a [u8], value: &'a [u8]) -> Record<'a> {
+/// The fields of a record's header, with its key and its value.
+pub fn record<'a>(head: &'a [u8], key: &'a [u8], value: &'a [u8]) -> Record<'a> {
     Record {
         state: head[2],
         attributes: number(head, 4),

@@ -3,6 +3,7 @@
 
 use image::{is_erased, number, HEADER, RECORD};
 
+use super::model;
 use super::view::{Header, Record};
 
 /// The header and the records in the first `total` bytes; after them all is 0xFF.
@@ -26,14 +27,7 @@ pub fn read(part: &[u8], total: usize) -> Result<(Header, Vec<Record<'_>>), Stri
 fn header(used: &[u8]) -> Option<Header> {
     let head = used.get(..HEADER)?;
     let fixed = &head[..4] == b"3VVN" && head[14..16] == [1, 0];
-    fixed.then(|| Header {
-        size: number(head, 4),
-        generation: number(head, 8),
-        state: head[12],
-        flags: head[13],
-        system_limit: number(head, 16),
-        common_limit: number(head, 20),
-    })
+    fixed.then(|| model::header(head))
 }
 
 fn record(rest: &[u8]) -> Option<(Record<'_>, usize)> {
@@ -43,15 +37,7 @@ fn record(rest: &[u8]) -> Option<(Record<'_>, usize)> {
     let (name, value) = rest.get(RECORD..len)?.split_at(name);
     let (closing, key) = name.split_last()?;
     let fixed = head[..2] == [0xAA, 0x55] && (head[3], *closing) == (0, 0);
-    let record = Record {
-        state: head[2],
-        attributes: number(head, 4),
-        guid: &head[16..32],
-        key,
-        value,
-        crc: number(head, 32),
-    };
-    fixed.then_some((record, len))
+    fixed.then_some((model::record(head, key, value), len))
 }
 
 #[cfg(test)]
