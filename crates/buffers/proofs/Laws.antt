@@ -6,8 +6,8 @@ use mathlib.Core.Bool.{Bool, true, false, _&&_, cond, and-assoc, true≢false}
 use native.Mathlib.Omega.{arith}
 use native.Mathlib.Nat.{min-eq-left, min-eq-right}
 use lib.Dec.{eqb, leb}
-use lib.ListN.{length, getD, take, drop, replicate, take-append-drop, drop-of-length-le, length-drop, length-take, length-append, length-replicate, replicate-append-replicate}
-use lib.Seq.{drop-cons, take-all, take-at, drop-at, take-length, drop-length}
+use lib.ListN.{length, getD, take, drop, replicate, drop-of-length-le, length-drop, length-take, length-append, length-replicate, replicate-append-replicate}
+use lib.Seq.{take-all, take-at, drop-at, take-length, drop-length}
 use borrow.Author.Tests.{eq-eqb, ne-eqb, eqb-true, leb-true, leb-false}
 use Rattle.buffers.specs.Bytes.{allFF, allBlank, countFF, eqBytes, onto}
 
@@ -40,9 +40,6 @@ unfolding eqBytes
 eq-bytes-refl [] = refl
 eq-bytes-refl (x ∷ a) = rw (eq-eqb x x refl) (eq-bytes-refl a)
 
-pub eq-bytes-false : (a b : List ℕ) → eqBytes a b ≡ false → a ≡ b → ⊥
-eq-bytes-false a b h e = true≢false (sym (eq-bytes-refl a) ∙ ap (eqBytes a) e ∙ h)
-
 -- all bytes 0xFF
 pub all-ff-eq : (s : List ℕ) → allFF s ≡ eqBytes s (replicate (length s) 255)
 unfolding allFF eqBytes
@@ -68,12 +65,6 @@ unfolding countFF
 count-ff-append zero t = omega arith
 count-ff-append (suc n) t = let e : countFF (replicate n 255 ++ t) ≡ n + countFF t = count-ff-append n t in omega arith
 
-pub count-ff-other : (n x : ℕ) (t : List ℕ) → (x ≡ 255 → ⊥) → countFF (replicate n 255 ++ (x ∷ t)) ≡ n
-unfolding countFF
-count-ff-other n x t h =
-    let z : countFF (x ∷ t) ≡ 0 = simp (ne-eqb x 255 h) in
-    omega (arith, count-ff-append n (x ∷ t))
-
 pub count-ff-replicate : (n : ℕ) → countFF (replicate n 255) ≡ n
 unfolding countFF
 count-ff-replicate n = ap countFF (sym (append-nil (replicate n 255))) ∙ count-ff-append n [] ∙ omega arith
@@ -93,14 +84,6 @@ count-ff-le s =
     let n = countFF s in
     let e : length (take n s) ≡ n = ap length (count-ff-take s) ∙ length-replicate n 255 in
     omega (arith, e, length-take n s)
-
-pub count-ff-stop : (s : List ℕ) → countFF s < length s → getD s (countFF s) 0 ≡ 255 → ⊥
-unfolding countFF
-count-ff-stop s h e =
-    let n = countFF s in
-    let whole : s ≡ replicate n 255 ++ drop n s = sym (take-append-drop n s) ∙ ap (λ (l : List ℕ). l ++ drop n s) (count-ff-take s) in
-    let rest : drop n s ≡ 255 ∷ drop (suc n) s = drop-cons s n 0 h ∙ ap (λ (x : ℕ). x ∷ drop (suc n) s) e in
-    omega (arith, ap countFF whole ∙ count-ff-append n (drop n s), ap countFF rest)
 
 -- all bytes 0 or 0xFF
 pub all-blank-ff : (n : ℕ) → allBlank (replicate n 255) ≡ true

@@ -6,8 +6,8 @@ use mathlib.Core.Bool.{Bool, true, cond}
 use mathlib.Core.Option.{Option, none, some}
 use native.Mathlib.Omega.{arith}
 use native.Mathlib.Nat.{sub-zero, suc-sub-suc, suc-mul, zero-mul}
-use lib.ListN.{length, getD, set, take, drop, replicate, length-append, length-map, length-replicate, length-drop, length-set, take-append-drop}
-use lib.Seq.{take-at, drop-at, take-add, length-take-le, set-getD}
+use lib.ListN.{length, getD, set, take, drop, replicate, length-append, length-drop, length-set, take-append-drop}
+use lib.Seq.{take-at, drop-at, take-add, length-take-le}
 use borrow.Author.Tests.{eqb-true, le-leb, leb-true, lt-ltb, ltb-true}
 use Rattle.crc32.specs.Crc32.{Bytes}
 use Rattle.crc32.proofs.ByTable.{bytes-take, bytes-drop}
@@ -25,10 +25,6 @@ use Rattle.nvram.proofs.RecordLaws.{and-both}
 use Rattle.nvram.proofs.SlotLaws.{slot-length, slot-view, Laid, slot-back, held}
 
 -- lengths
-
-pub length-table : (ss : List Slot) → length ss ≤ 16 → length (layTable ss) ≡ 16
-unfolding layTable
-length-table ss h = simp (length-append, length-map, length-replicate) (omega arith)
 
 pub length-parts : (ss : List Slot) → FineSlots ss → length (layParts ss) ≡ length ss * partSize
 unfolding layParts
@@ -71,10 +67,6 @@ split (s ∷ ss) (suc i) h f =
       at = λ x.
           ap (λ (l : List ℕ). partOf partSize s ++ l) (r .at x) ∙ sym (append-assoc (partOf partSize s) (r .pre) (partOf partSize x ++ r .post));
     }
-
--- as it is
-pub split-now : (ss : List Slot) (i : ℕ) (r : Split ss i) → layParts ss ≡ r .pre ++ (partOf partSize (getD ss i invalid) ++ r .post)
-split-now ss i r = ap layParts (sym (set-getD ss i invalid)) ∙ r .at (getD ss i invalid)
 
 entries-at : (ss : List Slot) (es : List Entry) (i : ℕ) → i < length ss
     → getD (map entryOf ss ++ es) i (entry Empty 0 0) ≡ entryOf (getD ss i invalid)
