@@ -1,6 +1,7 @@
 pub mod NumberLaws
 pub mod WalkLaws
 pub mod LengthLaws
+pub mod PaddedLaws
 pub mod HeaderLaws
 pub mod RecordBack
 pub mod BankBack

@@ -19,9 +19,13 @@ total b = 24 + sizes (b .records)
 unfoldable pub liveTotal : Bank → ℕ
 liveTotal b = 24 + sizes (select live (b .records))
 
--- live system records in sum, and common ones; a third GUID counts in neither
+-- a live record of one GUID; a third GUID is neither
+unfoldable pub liveOf : List ℕ → Record → Bool
+liveOf guid r = live r && eqBytes (r .guid) guid
+
+-- live system records in sum, and common ones
 unfoldable pub systemUsed : Bank → ℕ
-systemUsed b = sizes (select (λ r. live r && eqBytes (r .guid) systemGuid) (b .records))
+systemUsed b = sizes (select (liveOf systemGuid) (b .records))
 
 unfoldable pub commonUsed : Bank → ℕ
-commonUsed b = sizes (select (λ r. live r && eqBytes (r .guid) commonGuid) (b .records))
+commonUsed b = sizes (select (liveOf commonGuid) (b .records))

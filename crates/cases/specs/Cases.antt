@@ -1,5 +1,5 @@
 -- The bench cases of 01 that are marked P, over the definitions: one table, one theorem. Each row computes some numbers and says what they are.
-use Prim.Native.Nat.{ℕ, _+_}
+use Prim.Native.Nat.{ℕ, _+_, _-_}
 use mathlib.Core.Path.{_≡_, refl}
 use mathlib.Core.List.{List, [], _∷_, _++_}
 use lib.ListN.{length, replicate}
@@ -8,15 +8,17 @@ use Rattle.buffers.specs.Bytes.{allFF, allBlank, countFF, eqBytes}
 use Rattle.bank.specs.declared.header.StoreHeader.{StoreHeader}
 use Rattle.bank.specs.Number.{u16At, u32At, le32}
 use Rattle.bank.specs.Header.{headerBytes, headerOf, signed, readHeader}
+use Rattle.bank.specs.Record as record-specs
 use Rattle.bank.specs.Record.{Record, sizeOf, sizes, deletedState, varHeaderBytes, recordBytes, recordOf, commonGuid}
-use Rattle.bank.specs.Bank.{Bank, Slot, empty, invalid, valid, bankSize, padded}
-use Rattle.bank.specs.Read.{found, after, turn, walk, walkFrom, usableAt, slotOf, erasedSlot, afterHead, readBank}
-use Rattle.bank.specs.Figures.{total}
+use Rattle.bank.specs.Bank.{Slot, empty, invalid, valid, bankSize, padded}
+use Rattle.bank.specs.Read.{bankOf, found, after, turn, walk, walkFrom, usableAt, slotOf, erasedSlot, afterHead, readBank}
+use Rattle.bank.specs.Figures.{select, total, liveTotal, liveOf, systemUsed, commonUsed}
 use Rattle.bank.specs.declared.variable.VarType.the-variants.{Common}
 use Rattle.nvram.specs.Part.{partSize}
 use Rattle.nvram.specs.Book.{Book}
 use Rattle.nvram.specs.Opening.{readSlots, activeFrom, anyValid, Opened, opened, refused, opening}
-use Rattle.nvram.specs.Call.{remove, Answer, edited, looked, handed, removeIn, step}
+use Rattle.nvram.specs.Commit.{judge, request}
+use Rattle.nvram.specs.Call.{insert, remove, commit, Answer, edited, looked, handed, committed, joined, number, insertIn, removeIn, moveIn, commitAs, commitIn, commitTo, step}
 
 pub record Row : Type 0 where
   pub got : List ℕ
@@ -56,15 +58,29 @@ unfoldable pub begins : Opened → List ℕ
 begins (opened b) = 0 ∷ b .n ∷ b .active ∷ []
 begins (refused k) = k ∷ []
 
-unfoldable pub number : Answer → ℕ
-number (edited k) = k
-number (looked k f) = k
-number handed = 0
-
--- what removing a key answers after an opening
+-- what inserting and removing a key answer after an opening
 unfoldable pub afterwards : Opened → List ℕ
-afterwards (opened b) = number (step b (remove digits Common) .answer) ∷ []
+afterwards (opened b) = number (step b (insert digits [] Common) .answer) ∷ number (step b (remove digits Common) .answer) ∷ []
 afterwards (refused k) = []
+
+-- a bank of two whose one record is deleted and brings total to a number; usable is 65,536
+abbrev filled : ℕ → Book
+filled n =
+    record {
+      n = 2;
+      active = 0;
+      slots =
+          valid (bankOf (header 65536 5) (record { state = 0x7C; attributes = 0; guid = commonGuid; key = []; value = replicate (n - 61) 0 } ∷ []) 65536)
+          ∷ empty ∷ [];
+    }
+
+-- a commit as numbers: its number and the write's offset
+unfoldable pub writes : Answer → List ℕ
+writes (edited k) = []
+writes (looked k f) = []
+writes handed = []
+writes (committed k e offset long) = k ∷ offset ∷ []
+writes (joined k long) = []
 
 unfoldable pub table : List Row
 table =
@@ -81,12 +97,15 @@ table =
     ∷ (begins (opening (blank 3 ++ (blank 5 ++ blank 5)) 393216) is 0 ∷ 3 ∷ 1 ∷ [])
     -- P7 Invalid, then Valid with 0: opens, edits give 7
     ∷ (begins (opening (replicate 65536 0 ++ blank 0) 262144) is 0 ∷ 2 ∷ 0 ∷ [])
-    ∷ (afterwards (opening (replicate 65536 0 ++ blank 0) 262144) is 7 ∷ [])
+    ∷ (afterwards (opening (replicate 65536 0 ++ blank 0) 262144) is 7 ∷ 7 ∷ [])
     -- P8 CRC of `123456789`, and of nothing
     ∷ (crc32Of digits ∷ [] is 0xCBF43926 ∷ [])
     ∷ (crc32Of [] ∷ [] is 0 ∷ [])
     -- P9 removing state 0x7F gives 0x7C; 0x7E stays
     ∷ (deletedState 0x7F ∷ deletedState 0x7E ∷ [] is 0x7C ∷ 0x7E ∷ [])
+    -- P10 total = usable = 65,536 writes in place; 65,537 moves
+    ∷ (writes (step (filled 65536) (commit 65536) .answer) is 0 ∷ 0 ∷ [])
+    ∷ (writes (step (filled 65537) (commit 65536) .answer) is 0 ∷ 65536 ∷ [])
     -- P11 36 zero bytes, then 0xFF: blank. P12 36 bytes 0xFF, then 0: usable = total + 36
     ∷ (figures (readBank (bank 65536 (replicate 36 0))) is 24 ∷ 65536 ∷ 0 ∷ [])
     ∷ (figures (readBank (bank 65536 (replicate 36 255 ++ (0 ∷ [])))) is 24 ∷ (24 + 36) ∷ 0 ∷ [])
@@ -97,5 +116,5 @@ Holds [] = Unit {0}
 Holds (r ∷ rs) = (r .got ≡ r .want) × Holds rs
 
 pub cases : Holds table
-unfolding table figures begins number afterwards opening readSlots activeFrom anyValid bankSize partSize step removeIn crc32Of byteSteps byteStep bitSteps bitStep polyIf allFF allBlank countFF eqBytes u16At u32At le32 headerBytes headerOf signed readHeader sizeOf sizes deletedState varHeaderBytes recordBytes recordOf padded found after turn walk walkFrom usableAt slotOf erasedSlot afterHead readBank total
-cases = (refl, (refl, (refl, (refl, (refl, (refl, (refl, (refl, (refl, (refl, (refl, (refl, (refl, (refl, tt))))))))))))))
+unfolding table figures begins writes afterwards opening readSlots activeFrom anyValid bankSize partSize step insertIn removeIn moveIn commitAs commitIn commitTo judge request select liveTotal liveOf systemUsed commonUsed record-specs.live crc32Of byteSteps byteStep bitSteps bitStep polyIf allFF allBlank countFF eqBytes u16At u32At le32 headerBytes headerOf signed readHeader sizeOf sizes deletedState varHeaderBytes recordBytes recordOf padded found after turn walk walkFrom usableAt slotOf erasedSlot afterHead readBank total
+cases = (refl, (refl, (refl, (refl, (refl, (refl, (refl, (refl, (refl, (refl, (refl, (refl, (refl, (refl, (refl, (refl, tt))))))))))))))))

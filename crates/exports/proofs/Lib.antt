@@ -1,3 +1,5 @@
 pub mod StateLaws
 mod LoopLaws
 mod StoreLaws
+pub mod RunLaws
+pub mod EventLaws

@@ -1,3 +1,4 @@
 pub mod Numbers
 pub mod State
 pub mod Store
+pub mod Run

@@ -4,13 +4,13 @@ use mathlib.Core.Path.{_≡_}
 use mathlib.Core.List.{List, [], _∷_}
 use mathlib.Core.Bool.{cond}
 use mathlib.Core.Option.{Option, none, some}
-use lib.ListN.{length}
+use lib.ListN.{length, take, drop}
 use lib.Dec.{eqb, leb}
 use Rattle.buffers.specs.Bytes.{onto}
 use Rattle.bank.specs.declared.variable.VarType.{VarType}
 use Rattle.bank.specs.declared.variable.VarType.the-variants.{Common, System}
 use Rattle.nvram.specs.declared.state.Nvram.{Nvram}
-use Rattle.nvram.specs.Call.{Call, Answer, edited, looked, handed, refusal}
+use Rattle.nvram.specs.Call.{Call, Answer, edited, looked, handed, committed, joined, number, refusal}
 use Rattle.nvram.specs.Contract.{call, Begun, begun}
 use Rattle.nvram.specs.Opening.{opening}
 use Rattle.exports.specs.State.{readState, stored}
@@ -42,22 +42,28 @@ onState (some s) c bs w =
 unfoldable pub exported : Call → List ℕ → List ℕ → After
 exported c bs w = onState (readState bs) c bs w
 
--- an answer's number; bytes that are fetched have none
-abbrev pub numberOf : Answer → ℕ
-numberOf (edited k) = k
-numberOf (looked k f) = k
-numberOf handed = 0
+-- what the caller reads beside the number: of a lookup found 1 or 0, place and length; of a commit 1 or 0 for an erase request, its offset,
+-- the write's offset and length; of a whole image the length
+abbrev pub fieldsOf : Answer → List ℕ
+fieldsOf (edited k) = []
+fieldsOf (looked k none) = 0 ∷ 0 ∷ 0 ∷ []
+fieldsOf (looked k (some f)) = 1 ∷ f .place ∷ f .long ∷ []
+fieldsOf handed = []
+fieldsOf (committed k none offset long) = 0 ∷ 0 ∷ offset ∷ long ∷ []
+fieldsOf (committed k (some erase) offset long) = 1 ∷ erase ∷ offset ∷ long ∷ []
+fieldsOf (joined k long) = long ∷ []
 
--- found 1 or 0, place, length; zeros where none or refused
-abbrev pub foundOf : Answer → List ℕ
-foundOf (edited k) = 0 ∷ 0 ∷ 0 ∷ []
-foundOf (looked k none) = 0 ∷ 0 ∷ 0 ∷ []
-foundOf (looked k (some f)) = 1 ∷ f .place ∷ f .long ∷ []
-foundOf handed = 0 ∷ 0 ∷ 0 ∷ []
+-- how many bytes stand in the output
+abbrev pub lengthOf : Answer → ℕ
+lengthOf (edited k) = 0
+lengthOf (looked k f) = 0
+lengthOf handed = 0
+lengthOf (committed k e offset long) = long
+lengthOf (joined k long) = long
 
 -- the number r, the bytes x handed back, the state's bytes bs′ and the work area w′ are those of the definition
 pub record Calls (c : Call) (bs w : List ℕ) (r : ℕ) (x bs′ w′ : List ℕ) : Type 0 where
-  pub number : r ≡ numberOf (exported c bs w .answer)
+  pub number : r ≡ number (exported c bs w .answer)
   pub out : x ≡ exported c bs w .out
   pub state : bs′ ≡ exported c bs w .state
   pub work : w′ ≡ exported c bs w .work
@@ -65,7 +71,13 @@ pub record Calls (c : Call) (bs w : List ℕ) (r : ℕ) (x bs′ w′ : List ℕ
 -- a lookup: o is what the caller reads
 pub record Finds (c : Call) (bs w : List ℕ) (r : ℕ) (o : List ℕ) : Type 0 where
   pub does : Calls c bs w r [] bs w
-  pub found : o ≡ foundOf (exported c bs w .answer)
+  pub found : o ≡ fieldsOf (exported c bs w .answer)
+
+-- a commit or a whole image, whose output o is left as o′: the bytes handed back, then what stood there; q is what the caller reads
+pub record Writes (c : Call) (bs w o : List ℕ) (r : ℕ) (q bs′ w′ o′ : List ℕ) : Type 0 where
+  pub does : Calls c bs w r (take (lengthOf (exported c bs w .answer)) o′) bs′ w′
+  pub fields : q ≡ fieldsOf (exported c bs w .answer)
+  pub rest : drop (lengthOf (exported c bs w .answer)) o′ ≡ drop (lengthOf (exported c bs w .answer)) o
 
 -- bytes handed back over the front of o, which leaves o′; r is how many they are
 pub record Hands (c : Call) (bs w : List ℕ) (r : ℕ) (o o′ : List ℕ) : Type 0 where

@@ -5,11 +5,15 @@ use super::state::store;
 use bank::VarType;
 use nvram::Lookup;
 use nvram::Nvram;
+use writer::Applied;
+use writer::Erase;
 ghost use mathlib.Core.Path.{_≡_};
-ghost use mathlib.Core.List.{[]};
-ghost use Rattle.nvram.specs.Call.{insert, remove, lookup, fetch};
+ghost use mathlib.Core.List.{[], _∷_};
+ghost use lib.ListN.{length};
+ghost use Rattle.nvram.specs.Call.{insert, remove, lookup, fetch, commit, wholeImage, number as numberOf};
 ghost use Rattle.nvram.specs.Contract.{told};
-ghost use Rattle.exports.specs.Store.{typeOf, foundOf, numberOf, Calls, Finds, Hands, Opens};
+ghost use Rattle.writer.specs.Answer.{applied};
+ghost use Rattle.exports.specs.Store.{typeOf, fieldsOf, Calls, Finds, Hands, Writes, Opens};
 
 fn var_type(typ: u32) -> VarType
     ensures { λ r. ⌜ r ≡ typeOf typ ⌝ }
@@ -82,7 +86,7 @@ fn number(found: Lookup) -> u32
 }
 
 fn fields(found: Lookup) -> [u64; 3]
-    ensures { λ r. ⌜ r ≡ foundOf (told found) ⌝ }
+    ensures { λ r. ⌜ r ≡ fieldsOf (told found) ⌝ }
 {
     match found {
         Lookup::At(place, long) => [1, place as u64, long as u64],
@@ -132,4 +136,60 @@ pub extern "C" fn feqyondil_value(
     let value = before.value(work, key, var_type(typ));
     buffers::copy(value, out);
     value.len()
+}
+
+fn requests(answer: Applied) -> [u64; 4]
+    ensures { λ r. ⌜ r ≡ fieldsOf (applied answer) ⌝ }
+{
+    let offset = answer.offset as u64;
+    let length = answer.length as u64;
+    let erase = answer.erase;
+    match erase {
+        Erase::Nothing => [0, 0, offset, length],
+        Erase::At(bank) => [1, bank as u64, offset, length],
+    }
+}
+
+// Puts what is to be written into the output, and says what to erase and where to write it.
+#[no_mangle]
+pub extern "C" fn feqyondil_commit(
+    state: &mut [u8],
+    work: &mut [u8],
+    output: &mut [u8],
+    out: &mut [u64; 4],
+) -> u32
+    ensures { λ r. ⌜ Writes (commit (length (now (output .entry)))) (now (state .entry)) (now (work .entry)) (now (output .entry)) r (now (out .exit)) (now (state .exit)) (now (work .exit)) (now (output .exit)) ⌝ }
+{
+    let loaded = load(state);
+    if !loaded.ok {
+        *out = [0; 4];
+        return 6;
+    }
+    let before = loaded.state;
+    let answer = writer::apply(before, work, output);
+    let after = answer.state;
+    store(after, state);
+    *out = requests(answer);
+    answer.number
+}
+
+// Joins the Valid banks in the output, and says how long they are.
+#[no_mangle]
+pub extern "C" fn feqyondil_whole_image(
+    state: &[u8],
+    work: &[u8],
+    output: &mut [u8],
+    out: &mut [u64; 1],
+) -> u32
+    ensures { λ r. ⌜ Writes (wholeImage (length (now (output .entry)))) (now (state .entry)) (now (work .entry)) (now (output .entry)) r (now (out .exit)) (now (state .entry)) (now (work .entry)) (now (output .exit)) ⌝ }
+{
+    let loaded = load(state);
+    if !loaded.ok {
+        *out = [0; 1];
+        return 6;
+    }
+    let before = loaded.state;
+    let answer = writer::serialize(before, work, output);
+    *out = [answer.length as u64];
+    answer.number
 }

@@ -3,7 +3,7 @@ use Prim.Native.Nat.{ℕ, _+_, _*_, _-_, _≤_, _<_}
 use mathlib.Core.Path.{_≡_, refl, sym, ap, ap₂, _∙_, subst}
 use mathlib.Core.List.{List, [], _++_, append-assoc}
 use mathlib.Core.Bool.{true}
-use mathlib.Core.Option.{some}
+use mathlib.Core.Option.{Option, some}
 use native.Mathlib.Omega.{arith}
 use lib.ListN.{length, getD, set, take, drop, replicate, length-append}
 use lib.Seq.{take-at, drop-at, set-getD}
@@ -22,11 +22,11 @@ use Rattle.nvram.specs.Part.{partSize, entry, entryOf, FineSlot, given}
 use Rattle.nvram.specs.Records.{Holds}
 use Rattle.nvram.specs.Book.{Book, FineBook, activeSlot}
 use Rattle.nvram.specs.Layout.{layTable, layState, layParts, layWork, view}
-use Rattle.nvram.specs.Call.{Call, refusal, stay}
-use Rattle.nvram.specs.Contract.{Does}
+use Rattle.nvram.specs.Call.{Call, refusal, stay, step}
+use Rattle.nvram.specs.Contract.{tallied, Does}
 use Rattle.nvram.proofs.SlotLaws.{part-size}
 use Rattle.nvram.proofs.LayoutLaws.{lay-view, work-long, Split, split, table-at, fine-at}
-use Rattle.nvram.proofs.CallLaws.{some-of, does, kind-valid, step-7}
+use Rattle.nvram.proofs.CallLaws.{some-of, does, refusal-quiet, kind-valid, OnActive, step-7}
 
 -- what is known once soundness was tested
 pub record Sound (s : Nvram) (w : List ℕ) : Type 0 where
@@ -85,12 +85,19 @@ module _ {s : Nvram} {w : List ℕ} (g : Sound s w) where
   entry-is =
       ap₂ (λ (t : List Entry) (i : ℕ). getD t i (entry Empty 0 0)) banks-are active-is ∙ table-at (book .slots) (book .active) in-slots
 
-  -- refused by 7, nothing changed
-  pub does-7 : (c : Call) → (getD (s .banks) (s .active) (entry Empty 0 0) .kind ≡ Valid → ⊥) → Does c s w (refusal c 7) [] s w
-  does-7 c h =
-      does c s w book (stay book (refusal c 7)) (refusal c 7) [] s w viewed
-      (step-7 book c (λ e. h (ap (λ (x : Entry). x .kind) entry-is ∙ e)))
-      (record { answer = refl; out = refl; state = state-is; work = work-is })
+  -- refused by a number, nothing changed
+  pub does-refuse : (c : Call) (k : ℕ) → step book c ≡ stay book (refusal c k) → Does c s w (refusal c k) [] s w
+  does-refuse c k e =
+      does c s w book (stay book (refusal c k)) (refusal c k) [] s w viewed e
+      (record {
+        answer = refl;
+        out = refl;
+        state = state-is ∙ ap (λ (o : Option ℕ). layState book (tallied (s .tally) o)) (sym (refusal-quiet c k));
+        work = work-is;
+      })
+
+  pub does-7 : (c : Call) → OnActive c → (getD (s .banks) (s .active) (entry Empty 0 0) .kind ≡ Valid → ⊥) → Does c s w (refusal c 7) [] s w
+  does-7 c u h = does-refuse c 7 (step-7 book c u (λ e. h (ap (λ (x : Entry). x .kind) entry-is ∙ e)))
 
   -- the work area reaches past the active part
   pub part-within : s .active * 131072 + 131072 ≤ length w

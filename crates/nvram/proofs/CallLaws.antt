@@ -12,8 +12,8 @@ use Rattle.nvram.specs.declared.state.Nvram.{Nvram}
 use Rattle.nvram.specs.Part.{entryOf, given}
 use Rattle.nvram.specs.Book.{Book, activeSlot}
 use Rattle.nvram.specs.Layout.{layState, layWork, view}
-use Rattle.nvram.specs.Call.{Call, insert, remove, lookup, fetch, Answer, refusal, Outcome, stay, insertIn, removeIn, lookupIn, fetchIn, step}
-use Rattle.nvram.specs.Contract.{onBook, call, Does}
+use Rattle.nvram.specs.Call.{Call, insert, remove, lookup, fetch, commit, wholeImage, Answer, erase, refusal, Outcome, stay, insertIn, removeIn, lookupIn, fetchIn, step}
+use Rattle.nvram.specs.Contract.{tallied, onBook, call, Does}
 
 pub some-of : {A : Type 0} (o : Option A) → given o ≡ true → (x : A) × (o ≡ some x)
 some-of none e = let z : _≡_ {A = ℕ} 0 1 = cc in absurd (omega arith)
@@ -35,12 +35,21 @@ does-6 c s w e =
       work = sym (ap (λ (o : Option Book). onBook o c s w .work) q);
     }
 
+-- a refusal in the number alone requests nothing
+pub refusal-quiet : (c : Call) (k : ℕ) → erase (refusal c k) ≡ none
+refusal-quiet (insert key value typ) k = refl
+refusal-quiet (remove key typ) k = refl
+refusal-quiet (lookup key typ) k = refl
+refusal-quiet (fetch key typ) k = refl
+refusal-quiet (commit room) k = refl
+refusal-quiet (wholeImage room) k = refl
+
 -- what a call leaves, by the book's outcome
 pub record Leaves (o : Outcome) (s : Nvram) (w : List ℕ) (a : Answer) (x : List ℕ) (s′ : Nvram) (w′ : List ℕ) : Type 0 where
   pub answer : a ≡ o .answer
   pub out : x ≡ o .out
-  pub state : s′ ≡ layState (o .after) (s .tally)
-  pub work : w′ ≡ layWork (o .after) w
+  pub state : s′ ≡ layState (o .laid) (tallied (s .tally) (erase (o .answer)))
+  pub work : w′ ≡ layWork (o .laid) w
 
 pub does : (c : Call) (s : Nvram) (w : List ℕ) (b : Book) (o : Outcome) (a : Answer) (x : List ℕ) (s′ : Nvram) (w′ : List ℕ)
     → view s w ≡ some b → step b c ≡ o → Leaves o s w a x s′ w′ → Does c s w a x s′ w′
@@ -49,8 +58,8 @@ does c s w b o a x s′ w′ v q l =
     record {
       answer = l .answer ∙ sym (ap (λ (p : Option Book). onBook p c s w .answer) v ∙ ap (λ (p : Outcome). p .answer) q);
       out = l .out ∙ sym (ap (λ (p : Option Book). onBook p c s w .out) v ∙ ap (λ (p : Outcome). p .out) q);
-      state = l .state ∙ sym (ap (λ (p : Option Book). onBook p c s w .state) v ∙ ap (λ (p : Outcome). layState (p .after) (s .tally)) q);
-      work = l .work ∙ sym (ap (λ (p : Option Book). onBook p c s w .work) v ∙ ap (λ (p : Outcome). layWork (p .after) w) q);
+      state = l .state ∙ sym (ap (λ (p : Option Book). onBook p c s w .state) v ∙ ap (λ (p : Outcome). layState (p .laid) (tallied (s .tally) (erase (p .answer)))) q);
+      work = l .work ∙ sym (ap (λ (p : Option Book). onBook p c s w .work) v ∙ ap (λ (p : Outcome). layWork (p .laid) w) q);
     }
 
 -- a slot by its entry's kind
@@ -60,31 +69,34 @@ kind-valid (valid k) e = (k, refl)
 kind-valid empty e = let z : _≡_ {A = ℕ} 0 1 = cc in absurd (omega arith)
 kind-valid invalid e = let z : _≡_ {A = ℕ} 0 1 = cc in absurd (omega arith)
 
+-- the calls that ask for the active bank right after 6
+abbrev pub OnActive : Call → Type 0
+OnActive (insert key value typ) = Unit {0}
+OnActive (remove key typ) = Unit {0}
+OnActive (lookup key typ) = Unit {0}
+OnActive (fetch key typ) = Unit {0}
+OnActive (commit room) = ⊥
+OnActive (wholeImage room) = ⊥
+
 -- refused by 7: the active slot isn't Valid
-step-by : (b : Book) (c : Call) (x : Slot) → Outcome
-step-by b (insert key value typ) x = insertIn b key value typ x
-step-by b (remove key typ) x = removeIn b key typ x
-step-by b (lookup key typ) x = lookupIn b key typ x
-step-by b (fetch key typ) x = fetchIn b key typ x
+seven : (b : Book) (c : Call) (x : Slot) → OnActive c → activeSlot b ≡ x → (entryOf x .kind ≡ Valid → ⊥) → step b c ≡ stay b (refusal c 7)
+unfolding step insertIn removeIn lookupIn fetchIn entryOf
+seven b c (valid k) u e h = absurd (h refl)
+seven b (insert key value typ) empty u e h = ap (insertIn b key value typ) e
+seven b (insert key value typ) invalid u e h = ap (insertIn b key value typ) e
+seven b (remove key typ) empty u e h = ap (removeIn b key typ) e
+seven b (remove key typ) invalid u e h = ap (removeIn b key typ) e
+seven b (lookup key typ) empty u e h = ap (lookupIn b key typ) e
+seven b (lookup key typ) invalid u e h = ap (lookupIn b key typ) e
+seven b (fetch key typ) empty u e h = ap (fetchIn b key typ) e
+seven b (fetch key typ) invalid u e h = ap (fetchIn b key typ) e
+seven b (commit room) empty u e h = absurd u
+seven b (commit room) invalid u e h = absurd u
+seven b (wholeImage room) empty u e h = absurd u
+seven b (wholeImage room) invalid u e h = absurd u
 
-seven : (b : Book) (c : Call) (x : Slot) → (entryOf x .kind ≡ Valid → ⊥) → step-by b c x ≡ stay b (refusal c 7)
-unfolding step-by insertIn removeIn lookupIn fetchIn entryOf
-seven b c (valid k) h = absurd (h refl)
-seven b (insert key value typ) empty h = refl
-seven b (insert key value typ) invalid h = refl
-seven b (remove key typ) empty h = refl
-seven b (remove key typ) invalid h = refl
-seven b (lookup key typ) empty h = refl
-seven b (lookup key typ) invalid h = refl
-seven b (fetch key typ) empty h = refl
-seven b (fetch key typ) invalid h = refl
-
-pub step-7 : (b : Book) (c : Call) → (entryOf (activeSlot b) .kind ≡ Valid → ⊥) → step b c ≡ stay b (refusal c 7)
-unfolding step step-by
-step-7 b (insert key value typ) h = seven b (insert key value typ) (activeSlot b) h
-step-7 b (remove key typ) h = seven b (remove key typ) (activeSlot b) h
-step-7 b (lookup key typ) h = seven b (lookup key typ) (activeSlot b) h
-step-7 b (fetch key typ) h = seven b (fetch key typ) (activeSlot b) h
+pub step-7 : (b : Book) (c : Call) → OnActive c → (entryOf (activeSlot b) .kind ≡ Valid → ⊥) → step b c ≡ stay b (refusal c 7)
+step-7 b c u h = seven b c (activeSlot b) u refl h
 
 pub empty-valid : (k : Kind) → k ≡ Empty → k ≡ Valid → ⊥
 empty-valid k p q = let z : _≡_ {A = ℕ} 0 1 = cc in omega arith

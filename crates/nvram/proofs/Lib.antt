@@ -15,4 +15,6 @@ pub mod ReadyLaws
 pub mod EditLaws
 pub mod LookupLaws
 pub mod StandingLaws
+pub mod JudgeLaws
 pub mod StepLaws
+pub mod RefusalLaws

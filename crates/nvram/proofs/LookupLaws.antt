@@ -6,14 +6,13 @@ use mathlib.Core.Bool.{Bool, true, false, cond}
 use mathlib.Core.Option.{Option, none, some}
 use native.Mathlib.Omega.{arith}
 use lib.ListN.{length, getD, take, drop, take-append-drop, length-append}
-use lib.Seq.{take-at, drop-drop, length-take-le}
+use lib.Seq.{take-at, length-take-le}
 use Rattle.crc32.specs.Crc32.{Bytes, crc32Of}
 use Rattle.bank.specs.declared.variable.VarType.{VarType}
 use Rattle.bank.specs.Record.{Record, sizeOf, varHeaderBytes, recordBytes, recordsBytes}
 use Rattle.bank.specs.WellFormed.{FineRecord, FineRecords}
 use Rattle.bank.proofs.NumberLaws.{past-drop}
 use Rattle.bank.proofs.LengthLaws.{length-var-header, length-record}
-use Rattle.nvram.specs.declared.records.Located.{Located}
 use Rattle.nvram.specs.declared.records.Located as L
 use Rattle.nvram.specs.declared.lookup.Lookup.{Lookup}
 use Rattle.nvram.specs.declared.lookup.Lookup.the-variants.{At, Nothing, Refused}
@@ -24,7 +23,7 @@ use Rattle.nvram.specs.Edit.{matches, Found, foundIn, valueIn}
 use Rattle.nvram.specs.Part.{partSize, entry, given}
 use Rattle.nvram.specs.Records.{Holds, located}
 use Rattle.nvram.specs.Layout.{view}
-use Rattle.nvram.specs.Call.{lookup, fetch, Answer, looked, handed, stay, lookupIn, fetchIn, step}
+use Rattle.nvram.specs.Call.{lookup, fetch, Answer, looked, handed, stay, hand, lookupIn, fetchIn, step}
 use Rattle.nvram.specs.Contract.{call, Does, told}
 use Rattle.nvram.proofs.SlotLaws.{part-size}
 use Rattle.nvram.proofs.CallLaws.{does-6, does, empty-valid, invalid-valid}
@@ -115,7 +114,7 @@ module _ {s : Nvram} {w : List ℕ} (g : Sound s w) (v : getD (s .banks) (s .act
   fetches : Does (fetch key typ) s w handed (valueIn key typ (bank g v .records)) s w
   unfolding step fetchIn
   fetches =
-      does (fetch key typ) s w (book g) (record { answer = handed; out = valueIn key typ (bank g v .records); after = book g }) handed
+      does (fetch key typ) s w (book g) (hand (book g) handed (valueIn key typ (bank g v .records))) handed
       (valueIn key typ (bank g v .records)) s w (viewed g)
       (ap (fetchIn (book g) key typ) (bank-is g v))
       (record { answer = refl; out = refl; state = state-is g; work = work-is g })
@@ -154,8 +153,8 @@ module _ (key : List ℕ) (typ : VarType) (s : Nvram) (w : List ℕ) (l : Lookup
   refused-by k a d = record { bytes = []; does = d; part = handed-none l k w [] (t ∙ sym (a .answer)) refl }
 
   by-kind : (g : Sound s w) (k : Kind) → getD (s .banks) (s .active) (entry Empty 0 0) .kind ≡ k → Fetched key typ s w l
-  by-kind g Empty q = refused-by 7 (does-7 g (lookup key typ) (empty-valid _ q)) (does-7 g (fetch key typ) (empty-valid _ q))
-  by-kind g Invalid q = refused-by 7 (does-7 g (lookup key typ) (invalid-valid _ q)) (does-7 g (fetch key typ) (invalid-valid _ q))
+  by-kind g Empty q = refused-by 7 (does-7 g (lookup key typ) tt (empty-valid _ q)) (does-7 g (fetch key typ) tt (empty-valid _ q))
+  by-kind g Invalid q = refused-by 7 (does-7 g (lookup key typ) tt (invalid-valid _ q)) (does-7 g (fetch key typ) tt (invalid-valid _ q))
   by-kind g Valid q =
       let rs = bank g q .records in
       record {

@@ -18,7 +18,7 @@ use Rattle.nvram.specs.Layout.{view}
 use Rattle.nvram.specs.Ready.{activeEntry, byKind, readyOf}
 use Rattle.nvram.specs.Call.{Call, refusal}
 use Rattle.nvram.specs.Contract.{Does}
-use Rattle.nvram.proofs.CallLaws.{does-6, empty-valid, invalid-valid}
+use Rattle.nvram.proofs.CallLaws.{OnActive, does-6, empty-valid, invalid-valid}
 use Rattle.nvram.proofs.ActiveLaws.{Sound, does-7}
 
 module _ (s : Nvram) (w : List ℕ) where
@@ -41,9 +41,9 @@ module _ {s : Nvram} {w : List ℕ} (bytes : Bytes w) (long : length (s .banks) 
   known : given (view s w) ≡ true → Sound s w
   known g = record { bytes = bytes; long = long; ok = g }
 
-  pub refused : (k : ℕ) (c : Call) → r ≡ Refused k → Does c s w (refusal c k) [] s w
+  pub refused : (k : ℕ) (c : Call) → OnActive c → r ≡ Refused k → Does c s w (refusal c k) [] s w
   unfolding readyOf byKind
-  refused k c q = go (given (view s w)) (activeEntry s .kind) refl refl (sym q ∙ e)
+  refused k c u q = go (given (view s w)) (activeEntry s .kind) refl refl (sym q ∙ e)
     where
       number : (n : ℕ) → Refused k ≡ Refused n → Does c s w (refusal c n) [] s w → Does c s w (refusal c k) [] s w
       number n p d = let z : n ≡ k = cc in subst (λ (i : ℕ). Does c s w (refusal c i) [] s w) z d
@@ -51,8 +51,8 @@ module _ {s : Nvram} {w : List ℕ} (bytes : Bytes w) (long : length (s .banks) 
       go : (g : Bool) (x : Kind) → given (view s w) ≡ g → activeEntry s .kind ≡ x → Refused k ≡ cond g (byKind x s) (Refused 6)
           → Does c s w (refusal c k) [] s w
       go false x a b p = number 6 p (does-6 c s w a)
-      go true Empty a b p = number 7 p (does-7 (known a) c (empty-valid _ b))
-      go true Invalid a b p = number 7 p (does-7 (known a) c (invalid-valid _ b))
+      go true Empty a b p = number 7 p (does-7 (known a) c u (empty-valid _ b))
+      go true Invalid a b p = number 7 p (does-7 (known a) c u (invalid-valid _ b))
       go true Valid a b p = let z : _≡_ {A = ℕ} 0 1 = cc in absurd (omega arith)
 
   pub standing : (from to : ℕ) → r ≡ Records from to → Standing s w from to

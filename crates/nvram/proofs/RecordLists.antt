@@ -11,6 +11,7 @@ use Rattle.crc32.specs.Crc32.{Bytes}
 use Rattle.bank.specs.declared.variable.VarType.{VarType}
 use Rattle.bank.specs.declared.variable.VarType.the-variants.{Common, System}
 use Rattle.bank.specs.Record.{Record, sizeOf, sizes, guidOf, deletedState, recordBytes, recordsBytes}
+use Rattle.bank.specs.Figures.{select}
 use Rattle.bank.specs.WellFormed.{FineRecord, FineRecords}
 use Rattle.bank.proofs.WalkLaws.{by-test}
 use Rattle.nvram.specs.Edit.{matches, deleted, removed, fresh}
@@ -63,6 +64,19 @@ module _ (key : List ℕ) (typ : VarType) where
   unfolding sizes
   sizes-removed [] = refl
   sizes-removed (r ∷ rs) = cc (size-deleted r, sizes-removed rs)
+
+module _ (p : Record → Bool) where
+  pub fine-select : (rs : List Record) → FineRecords rs → FineRecords (select p rs)
+  unfolding select
+  fine-select [] f = tt
+  fine-select (r ∷ rs) f = by-test FineRecords (p r) (r ∷ select p rs) (select p rs) (λ _. (f .0, fine-select rs (f .1))) (λ _. fine-select rs (f .1))
+
+  pub sizes-select : (rs : List Record) → sizes (select p rs) ≤ sizes rs
+  unfolding select sizes
+  sizes-select [] = omega arith
+  sizes-select (r ∷ rs) =
+      by-test (λ (x : List Record). sizes x ≤ sizeOf r + sizes rs) (p r) (r ∷ select p rs) (select p rs) (λ _. omega (arith, sizes-select rs))
+      (λ _. omega (arith, sizes-select rs))
 
 pub guid-length : (typ : VarType) → length (guidOf typ) ≡ 16
 guid-length Common = refl

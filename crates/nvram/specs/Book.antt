@@ -34,3 +34,9 @@ withActive b k = record { n = b .n; active = b .active; slots = set (b .slots) (
 
 abbrev pub withRecords : Bank → List Record → Bank
 withRecords k rs = bankOf (k .header) rs (k .usable)
+
+-- the size in a Valid bank's header, else none
+abbrev pub slotSize : Slot → ℕ
+slotSize empty = 0
+slotSize invalid = 0
+slotSize (valid k) = k .header .size

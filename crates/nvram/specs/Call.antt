@@ -1,24 +1,28 @@
--- Calls as data, and what each does to the book and answers (01, 'Edits and lookups', 'Refusals from the state').
+-- Calls as data, and what each does to the book and answers (01, 'A commit, from the entry down', 'Edits and lookups', 'Refusals').
 use Prim.Native.Nat.{ℕ, _+_, _*_}
-use mathlib.Core.List.{List, [], _∷_}
+use mathlib.Core.List.{List, []}
 use mathlib.Core.Bool.{cond}
-use mathlib.Core.Option.{Option, none, some}
-use lib.Dec.{leb}
+use mathlib.Core.Option.{Option, none}
+use lib.Dec.{leb, ltb}
+use lib.ListN.{length}
 use Rattle.crc32.specs.Crc32.{Bytes}
 use Rattle.bank.specs.declared.variable.VarType.{VarType}
 use Rattle.bank.specs.Record.{sizeOf}
-use Rattle.bank.specs.Bank.{Bank, Slot, empty, invalid, valid}
-use Rattle.bank.specs.Figures.{total}
+use Rattle.bank.specs.Bank.{Bank, Slot, empty, invalid, valid, bankSize}
+use Rattle.bank.specs.Figures.{total, liveTotal}
 use Rattle.nvram.specs.Edit.{removed, inserted, fresh, Found, foundIn, valueIn}
 use Rattle.nvram.specs.Part.{partSize}
 use Rattle.nvram.specs.Book.{Book, activeSlot, withActive, withRecords}
+use Rattle.nvram.specs.Commit.{Judged, refuse, inPlace, move, judge, moved, nextBank, nextSlot, request, movedBook, output, imageOutput, anyOverfull}
 
--- lookup answers the place, fetch the bytes themselves
+-- lookup answers the place, fetch the bytes themselves; of a lent output a commit and a whole image see the length
 pub data Call : Type 0 where
   insert : List ℕ → List ℕ → VarType → Call
   remove : List ℕ → VarType → Call
   lookup : List ℕ → VarType → Call
   fetch : List ℕ → VarType → Call
+  commit : ℕ → Call
+  wholeImage : ℕ → Call
 
 -- keys and values are bytes, as every slice is
 abbrev pub ByteCall : Call → Type 0
@@ -26,12 +30,32 @@ ByteCall (insert key value typ) = Bytes key × Bytes value
 ByteCall (remove key typ) = Bytes key
 ByteCall (lookup key typ) = Bytes key
 ByteCall (fetch key typ) = Bytes key
+ByteCall (commit room) = Unit {0}
+ByteCall (wholeImage room) = Unit {0}
 
--- a refusal's number, 0 where accepted; a lookup that is accepted finds something or nothing; bytes that are fetched have no number
+-- a refusal's number, 0 where accepted; a lookup that is accepted finds something or nothing; bytes that are fetched have no number; a
+-- commit answers an optional erase request's offset, the write's offset and its length; a whole image its length
 pub data Answer : Type 0 where
   edited : ℕ → Answer
   looked : ℕ → Option Found → Answer
   handed : Answer
+  committed : ℕ → Option ℕ → ℕ → ℕ → Answer
+  joined : ℕ → ℕ → Answer
+
+abbrev pub number : Answer → ℕ
+number (edited k) = k
+number (looked k f) = k
+number handed = 0
+number (committed k e offset long) = k
+number (joined k long) = k
+
+-- the erase request that an answer makes
+abbrev pub erase : Answer → Option ℕ
+erase (edited k) = none
+erase (looked k f) = none
+erase handed = none
+erase (committed k e offset long) = e
+erase (joined k long) = none
 
 -- the answer of a call that is refused by a number
 abbrev pub refusal : Call → ℕ → Answer
@@ -39,18 +63,25 @@ refusal (insert key value typ) k = edited k
 refusal (remove key typ) k = edited k
 refusal (lookup key typ) k = looked k none
 refusal (fetch key typ) k = handed
+refusal (commit room) k = committed k none 0 0
+refusal (wholeImage room) k = joined k 0
 
--- an answer, the bytes handed back, and the book after
+-- an answer, the bytes handed back, the book after, and the book that state and work area hold after: another one where 12 keeps the move
 pub record Outcome : Type 0 where
   pub answer : Answer
   pub out : List ℕ
   pub after : Book
+  pub laid : Book
 
 abbrev pub stay : Book → Answer → Outcome
-stay b a = record { answer = a; out = []; after = b }
+stay b a = record { answer = a; out = []; after = b; laid = b }
+
+-- the book stays, and bytes are handed back
+abbrev pub hand : Book → Answer → List ℕ → Outcome
+hand b a x = record { answer = a; out = x; after = b; laid = b }
 
 abbrev pub change : Book → Bank → Outcome
-change b k = record { answer = edited 0; out = []; after = withActive b k }
+change b k = record { answer = edited 0; out = []; after = withActive b k; laid = withActive b k }
 
 -- each call by the active slot: 7 where it isn't Valid, and for insert 8 where total would go over 131,072
 
@@ -75,10 +106,51 @@ lookupIn b key typ (valid k) = stay b (looked 0 (foundIn key typ (b .active * pa
 unfoldable pub fetchIn : Book → List ℕ → VarType → Slot → Outcome
 fetchIn b key typ empty = stay b handed
 fetchIn b key typ invalid = stay b handed
-fetchIn b key typ (valid k) = record { answer = handed; out = valueIn key typ (k .records); after = b }
+fetchIn b key typ (valid k) = hand b handed (valueIn key typ (k .records))
+
+-- a commit that moves, and makes this erase request
+abbrev pub moves : Book → Bank → Option ℕ → Outcome
+moves b k e =
+    record {
+      answer = committed 0 e (nextBank b * bankSize) (k .header .size);
+      out = output (moved k);
+      after = movedBook b k;
+      laid = movedBook b k;
+    }
+
+-- 12 keeps the move and the erase request
+abbrev pub overflows : Book → Bank → Option ℕ → Outcome
+overflows b k e = record { answer = committed 12 e 0 0; out = []; after = b; laid = movedBook b k }
+
+-- total > size after the move is 12
+unfoldable pub moveIn : Book → Bank → Option ℕ → Outcome
+moveIn b k e = cond (leb (liveTotal k) (k .header .size)) (moves b k e) (overflows b k e)
+
+unfoldable pub commitAs : Book → Bank → Judged → Outcome
+commitAs b k (refuse n) = stay b (committed n none 0 0)
+commitAs b k inPlace = hand b (committed 0 none (b .active * bankSize) (k .header .size)) (output k)
+commitAs b k move = moveIn b k (request (nextSlot b) (nextBank b))
+
+unfoldable pub commitIn : Book → Slot → Outcome
+commitIn b empty = stay b (committed 7 none 0 0)
+commitIn b invalid = stay b (committed 7 none 0 0)
+commitIn b (valid k) = commitAs b k (judge k)
+
+-- 5 where the output is too short
+unfoldable pub commitTo : Book → ℕ → Outcome
+commitTo b room = cond (ltb room bankSize) (stay b (committed 5 none 0 0)) (commitIn b (activeSlot b))
+
+-- 5, then 13 where a Valid bank has total > size
+unfoldable pub imageTo : Book → ℕ → Outcome
+imageTo b room =
+    cond (ltb room (b .n * bankSize)) (stay b (joined 5 0))
+    (cond (anyOverfull (b .slots)) (stay b (joined 13 0))
+    (hand b (joined 0 (length (imageOutput (b .slots)))) (imageOutput (b .slots))))
 
 unfoldable pub step : Book → Call → Outcome
 step b (insert key value typ) = insertIn b key value typ (activeSlot b)
 step b (remove key typ) = removeIn b key typ (activeSlot b)
 step b (lookup key typ) = lookupIn b key typ (activeSlot b)
 step b (fetch key typ) = fetchIn b key typ (activeSlot b)
+step b (commit room) = commitTo b room
+step b (wholeImage room) = imageTo b room

@@ -1,6 +1,6 @@
 -- The contract of every call: what it answers and leaves is what the call does to the book that state and work area hold, laid out again;
 -- or 6, and nothing changed.
-use Prim.Native.Nat.{ℕ}
+use Prim.Native.Nat.{ℕ, _+_, min}
 use mathlib.Core.Path.{_≡_}
 use mathlib.Core.List.{List, []}
 use mathlib.Core.Option.{Option, none, some}
@@ -9,12 +9,11 @@ use Rattle.nvram.specs.declared.state.Kind.the-variants.{Empty}
 use Rattle.nvram.specs.declared.state.Nvram.{Nvram}
 use Rattle.nvram.specs.declared.lookup.Lookup.{Lookup}
 use Rattle.nvram.specs.declared.lookup.Lookup.the-variants.{At, Nothing, Refused}
-use Rattle.nvram.specs.Edit.{Found}
 use Rattle.nvram.specs.Part.{entry}
 use Rattle.nvram.specs.Book.{Book}
 use Rattle.nvram.specs.Opening.{Opened, opened, refused}
 use Rattle.nvram.specs.Layout.{layState, layWork, view}
-use Rattle.nvram.specs.Call.{Call, Answer, looked, refusal, Outcome, step}
+use Rattle.nvram.specs.Call.{Call, Answer, looked, erase, refusal, step}
 
 pub record After : Type 0 where
   pub answer : Answer
@@ -22,14 +21,19 @@ pub record After : Type 0 where
   pub state : Nvram
   pub work : List ℕ
 
+-- erase requests since opening (01, 'A commit, from the entry down'), stopping at 4,294,967,295
+abbrev pub tallied : ℕ → Option ℕ → ℕ
+tallied tally none = tally
+tallied tally (some offset) = min (tally + 1) 4294967295
+
 unfoldable pub onBook : Option Book → Call → Nvram → List ℕ → After
 onBook none c s w = record { answer = refusal c 6; out = []; state = s; work = w }
 onBook (some b) c s w =
     record {
       answer = step b c .answer;
       out = step b c .out;
-      state = layState (step b c .after) (s .tally);
-      work = layWork (step b c .after) w;
+      state = layState (step b c .laid) (tallied (s .tally) (erase (step b c .answer)));
+      work = layWork (step b c .laid) w;
     }
 
 unfoldable pub call : Call → Nvram → List ℕ → After

@@ -5,5 +5,6 @@ pub mod Book
 pub mod Opening
 pub mod Layout
 pub mod Ready
+pub mod Commit
 pub mod Call
 pub mod Contract

@@ -13,7 +13,7 @@ use Rattle.bank.specs.declared.header.Head.the-variants.{Good, Signature, Versi
 use Rattle.bank.specs.Number.{u16At, u32At}
 use Rattle.bank.specs.Header.{readHeader}
 use Rattle.bank.specs.Record.{Record, recordOf, nameAt, valueAt, sizeAt}
-use Rattle.bank.specs.Bank.{Bank, Slot, empty, invalid, valid}
+use Rattle.bank.specs.Bank.{Slot, empty, invalid, valid}
 use Rattle.bank.specs.Read.{bankOf}
 use Rattle.bank.specs.Figures.{total}
 use Rattle.bank.specs.WellFormed.{FineBank}

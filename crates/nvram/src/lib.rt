@@ -11,6 +11,7 @@ pub use edit::Edited;
 pub use lookup::Lookup;
 pub use opening::Opened;
 pub use opening::no_banks;
+pub use sound::is_sound;
 pub use state::Entry;
 pub use state::Kind;
 pub use state::Nvram;

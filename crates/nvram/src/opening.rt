@@ -16,9 +16,6 @@ ghost use Rattle.nvram.specs.Layout.{layState, layWork};
 ghost use Rattle.nvram.specs.Opening.{readSlots, activeFrom, isValid, anyValid, bookOf, opening};
 ghost use Rattle.nvram.specs.Contract.{noState, begun};
 
-// A bank's bytes in the image.
-const BANK: usize = 65536;
-
 // A refusal's number, or 0, and the state; a refused opening gives zeros and Empty slots.
 pub struct Opened {
     pub number: u32,
@@ -60,8 +57,8 @@ fn is_valid(image: &[u8], i: usize) -> bool
     requires { ⌜ (i < 16) × ((i + 1) * 65536 ≤ length (now image)) ⌝ }
     ensures { λ r. ⌜ r ≡ isValid (readBank (take bankSize (drop (i * bankSize) (now (image .entry))))) ⌝ }
 {
-    let a = i * BANK;
-    let e = a + BANK;
+    let a = i * Nvram::BANK;
+    let e = a + Nvram::BANK;
     match Partition::parse(&image[a..e]) {
         Slot::Short => false,
         Slot::Empty => false,
@@ -143,8 +140,8 @@ fn load_bank(image: &[u8], work: &mut [u8], i: usize) -> Slot
     requires { ⌜ (i < 16) × ((i + 1) * 65536 ≤ length (now image)) × ((i + 1) * 131072 ≤ length (now work)) ⌝ }
     ensures { λ r. ⌜ (r ≡ answer (readBank (take bankSize (drop (i * bankSize) (now (image .entry)))))) × (now (work .exit) ≡ take (i * partSize) (now (work .entry)) ++ (partOf partSize (readBank (take bankSize (drop (i * bankSize) (now (image .entry))))) ++ drop ((i + 1) * partSize) (now (work .entry)))) ⌝ }
 {
-    let a = i * BANK;
-    let e = a + BANK;
+    let a = i * Nvram::BANK;
+    let e = a + Nvram::BANK;
     let b = i * Nvram::PART;
     let f = b + Nvram::PART;
     Partition::serialize(&image[a..e], &mut work[b..f])
@@ -180,13 +177,13 @@ impl Nvram {
     pub fn parse(image: &[u8], work: &mut [u8]) -> Opened
         ensures { λ r. ⌜ (let x = begun (opening (now (image .entry)) (length (now (work .entry)))) (now (work .entry)) in (r .number ≡ x .number) × (r .state ≡ x .state) × (now (work .exit) ≡ x .work)) ⌝ }
     {
-        if image.len() < BANK {
+        if image.len() < Nvram::BANK {
             return refused(1);
         }
-        if 17 * BANK <= image.len() {
+        if 17 * Nvram::BANK <= image.len() {
             return refused(2);
         }
-        let n = image.len() / BANK;
+        let n = image.len() / Nvram::BANK;
         if work.len() < n * Nvram::PART {
             return refused(3);
         }

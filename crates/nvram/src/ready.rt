@@ -1,7 +1,8 @@
 // What every call on the active bank asks first: refusals 6 and 7.
-use super::sound::sound;
+use super::sound::is_sound;
 use super::state::Kind;
 use super::state::Nvram;
+use bank::Variable;
 ghost use mathlib.Core.Path.{_≡_};
 ghost use Rattle.nvram.specs.Ready.{readyOf};
 
@@ -15,7 +16,7 @@ impl Nvram {
     pub(crate) fn ready(self, work: &[u8]) -> Ready
         ensures { λ r. ⌜ r ≡ readyOf self (now (work .entry)) ⌝ }
     {
-        if !sound(self, work) {
+        if !is_sound(self, work) {
             return Ready::Refused(6);
         }
         let i = self.active as usize;
@@ -26,7 +27,10 @@ impl Nvram {
             Kind::Invalid => Ready::Refused(7),
             Kind::Valid => {
                 let part = i * Nvram::PART;
-                Ready::Records(part + 24, part + entry.total as usize)
+                Ready::Records(
+                    part + Variable::STORE_HEADER_SIZE,
+                    part + entry.total as usize,
+                )
             }
         }
     }

@@ -5,6 +5,7 @@ use super::state::Kind;
 use super::state::Nvram;
 use bank::Head;
 use bank::StoreHeader;
+use bank::Variable;
 ghost use mathlib.Core.Path.{_≡_};
 ghost use Prim.Native.Nat.{_*_, _≤_};
 ghost use lib.ListN.{length, drop};
@@ -90,7 +91,7 @@ fn is_bank(t: &[u32; 4096], header: StoreHeader, entry: Entry, part: &[u8]) -> b
     if !buffers::all_ff(&part[total..]) {
         return false;
     }
-    are_records(t, &part[24..total])
+    are_records(t, &part[Variable::STORE_HEADER_SIZE..total])
 }
 
 // Whether an entry and its part are sound.
@@ -133,7 +134,7 @@ fn slots_sound(state: Nvram, work: &[u8]) -> bool
 }
 
 // Whether state and work area are sound.
-pub(crate) fn sound(state: Nvram, work: &[u8]) -> bool
+pub fn is_sound(state: Nvram, work: &[u8]) -> bool
     ensures { λ r. ⌜ r ≡ given (view state (now (work .entry))) ⌝ }
 {
     let n = state.n as usize;

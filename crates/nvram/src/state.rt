@@ -26,7 +26,11 @@ pub struct Nvram {
 }
 
 impl Nvram {
-    pub(crate) const PART: usize = 131072;
+    // A bank's bytes in an image.
+    pub const BANK: usize = 65536;
+
+    // Work area for each bank.
+    pub const PART: usize = 131072;
 
     // The state with entry i replaced.
     pub(crate) fn with_entry(self, i: usize, entry: Entry) -> Nvram

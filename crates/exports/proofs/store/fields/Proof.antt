@@ -1,7 +1,7 @@
 use mathlib.Core.Path.{sym, ap}
 use Rattle.nvram.specs.declared.lookup.Lookup.{Lookup}
 use Rattle.nvram.specs.Contract.{told}
-use Rattle.exports.specs.Store.{foundOf}
+use Rattle.exports.specs.Store.{fieldsOf}
 use borrow.Author.Needs.{needs}
 use Rattle.exports.proofs.store.fields.Statement.{statement}
 use Rattle.exports.proofs.store.fields.Tie as tie
@@ -16,7 +16,7 @@ enum-told-2 : tie.Need-enum-told-2
 enum-told-2 c = search needs
 
 returns : tie.Need-returns
-returns c = sym (ap (λ (l : Lookup). foundOf (told l)) (c .before .found .given .1))
+returns c = sym (ap (λ (l : Lookup). fieldsOf (told l)) (c .before .found .given .1))
 
 returns-2 : tie.Need-returns-2
 returns-2 c = search needs

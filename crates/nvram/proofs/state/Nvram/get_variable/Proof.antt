@@ -32,7 +32,7 @@ enum-told c = search needs
 
 returns : tie.Need-returns
 returns c = let a = c .before .before .before .before .before .before .args in
-    refused (λ i. omega (arith, c .before .before .before .before .before .shared-slice-known .given i)) (simp length-map at (c .before .before .before .before .before .before .good .0 .1 .1 .1 .1 .1 .0 .1 .0 .1)) (c .before .before .before .ready .ensures) _ (lookup (a .key .now) (a .typ)) (c .before .number .given .1)
+    refused (λ i. omega (arith, c .before .before .before .before .before .shared-slice-known .given i)) (simp length-map at (c .before .before .before .before .before .before .good .0 .1 .1 .1 .1 .1 .0 .1 .0 .1)) (c .before .before .before .ready .ensures) _ (lookup (a .key .now) (a .typ)) tt (c .before .number .given .1)
 
 returns-2 : tie.Need-returns-2
 returns-2 c = let k = at-hand (c .before .before .before .before) in

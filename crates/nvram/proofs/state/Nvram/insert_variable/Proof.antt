@@ -54,7 +54,7 @@ same-length-2 c = search needs
 
 returns-2 : tie.Need-returns-2
 returns-2 c = let a = c .before .before .before .before .before .before .before .before .args in
-    refused (λ i. omega (arith, c .before .before .before .before .before .before .before .slice-known .given i)) (simp length-map at (c .before .before .before .before .before .before .before .before .good .0 .1 .1 .1 .1 .1 .0 .1 .0 .1)) (c .before .before .before .ready .ensures) _ (insert (a .key .now) (a .value .now) (a .typ)) (c .before .number .given .1)
+    refused (λ i. omega (arith, c .before .before .before .before .before .before .before .slice-known .given i)) (simp length-map at (c .before .before .before .before .before .before .before .before .good .0 .1 .1 .1 .1 .1 .0 .1 .0 .1)) (c .before .before .before .ready .ensures) _ (insert (a .key .now) (a .value .now) (a .typ)) tt (c .before .number .given .1)
 
 same-length-3 : tie.Need-same-length-3
 same-length-3 c = search needs

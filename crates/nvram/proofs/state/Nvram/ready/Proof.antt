@@ -10,11 +10,11 @@ use borrow.Author.Needs.{needs}
 use Rattle.nvram.proofs.state.Nvram.ready.Statement.{statement}
 use Rattle.nvram.proofs.state.Nvram.ready.Tie as tie
 
-sound-requires : tie.Need-sound-requires
-sound-requires c κs = search needs
+is-sound-requires : tie.Need-is-sound-requires
+is-sound-requires c κs = search needs
 
 returns : tie.Need-returns
-returns c = ready-6 (c .before .before .before .args .t1) (c .before .before .before .args .work .now) (sym (c .before .sound .ensures) ∙ not-true _ (c .if1 .taken))
+returns c = ready-6 (c .before .before .before .args .t1) (c .before .before .before .args .work .now) (sym (c .before .is-sound .ensures) ∙ not-true _ (c .if1 .taken))
 
 cast-i : tie.Need-cast-i
 cast-i c = search needs
@@ -23,7 +23,7 @@ mul-entry : tie.Need-mul-entry
 mul-entry c = search needs
 
 element-copy-out-entry : tie.Need-element-copy-out-entry
-element-copy-out-entry c = omega (arith, active-in (record { bytes = λ i. omega (arith, c .before .before .shared-slice-known .given i); long = simp length-map at (c .before .before .before .good .0 .1 .1 .1 .1 .1 .0 .1 .0 .1); ok = sym (c .before .sound .ensures) ∙ not-false _ (c .if1 .left) }))
+element-copy-out-entry c = omega (arith, active-in (record { bytes = λ i. omega (arith, c .before .before .shared-slice-known .given i); long = simp length-map at (c .before .before .before .good .0 .1 .1 .1 .1 .1 .0 .1 .0 .1); ok = sym (c .before .is-sound .ensures) ∙ not-false _ (c .if1 .left) }))
 
 enum-told : tie.Need-enum-told
 enum-told c = search needs
@@ -49,23 +49,23 @@ add-t19 c = search needs
 returns-2 : tie.Need-returns-2
 unfolding byKind
 returns-2 c = let a = c .before .before .before .before .before .before .args in
-    sym (ap (λ (k : Kind). byKind k (a .t1)) (c .enum-told .given .1)) ∙ ready-as (a .t1) (a .work .now) (sym (c .before .before .before .before .sound .ensures) ∙ not-false _ (c .before .before .before .if1 .left))
+    sym (ap (λ (k : Kind). byKind k (a .t1)) (c .enum-told .given .1)) ∙ ready-as (a .t1) (a .work .now) (sym (c .before .before .before .before .is-sound .ensures) ∙ not-false _ (c .before .before .before .if1 .left))
 
 returns-3 : tie.Need-returns-3
 unfolding byKind
 returns-3 c = let a = c .before .before .before .before .before .before .args in
-    sym (ap (λ (k : Kind). byKind k (a .t1)) (c .enum-told2 .given .1)) ∙ ready-as (a .t1) (a .work .now) (sym (c .before .before .before .before .sound .ensures) ∙ not-false _ (c .before .before .before .if1 .left))
+    sym (ap (λ (k : Kind). byKind k (a .t1)) (c .enum-told2 .given .1)) ∙ ready-as (a .t1) (a .work .now) (sym (c .before .before .before .before .is-sound .ensures) ∙ not-false _ (c .before .before .before .if1 .left))
 
 returns-4 : tie.Need-returns-4
 unfolding byKind
 returns-4 c = let a = c .before .before .before .before .before .before .before .args in
-    sym (ap (λ (k : Kind). byKind k (a .t1)) (c .before .enum-told3 .given .1)) ∙ ready-as (a .t1) (a .work .now) (sym (c .before .before .before .before .before .sound .ensures) ∙ not-false _ (c .before .before .before .before .if1 .left))
+    sym (ap (λ (k : Kind). byKind k (a .t1)) (c .before .enum-told3 .given .1)) ∙ ready-as (a .t1) (a .work .now) (sym (c .before .before .before .before .before .is-sound .ensures) ∙ not-false _ (c .before .before .before .before .if1 .left))
 
 pub ready-spec : {M : Type 1} → statement M
 ready-spec =
     tie.close
     (tie.spec
-    sound-requires
+    is-sound-requires
     returns
     cast-i
     mul-entry

@@ -28,7 +28,7 @@ same-length c = search needs
 
 returns : tie.Need-returns
 returns c = let a = c .before .before .before .before .before .before .before .args in
-    refused (λ i. omega (arith, c .before .before .before .before .before .before .slice-known .given i)) (simp length-map at (c .before .before .before .before .before .before .before .good .0 .1 .1 .1 .1 .1 .0 .1 .0 .1)) (c .before .before .before .ready .ensures) _ (remove (a .key .now) (a .typ)) (c .before .number .given .1)
+    refused (λ i. omega (arith, c .before .before .before .before .before .before .slice-known .given i)) (simp length-map at (c .before .before .before .before .before .before .before .good .0 .1 .1 .1 .1 .1 .0 .1 .0 .1)) (c .before .before .before .ready .ensures) _ (remove (a .key .now) (a .typ)) tt (c .before .number .given .1)
 
 same-length-2 : tie.Need-same-length-2
 same-length-2 c = search needs

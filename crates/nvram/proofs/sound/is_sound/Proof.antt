@@ -2,8 +2,8 @@ use native.Mathlib.Omega.{arith}
 use mathlib.Core.Path.{_∙_}
 use Rattle.nvram.proofs.SoundLaws.{view-low, view-high, view-outside, view-short, view-slots}
 use borrow.Author.Needs.{needs}
-use Rattle.nvram.proofs.sound.sound.Statement.{statement}
-use Rattle.nvram.proofs.sound.sound.Tie as tie
+use Rattle.nvram.proofs.sound.is_sound.Statement.{statement}
+use Rattle.nvram.proofs.sound.is_sound.Tie as tie
 
 cast-n : tie.Need-cast-n
 cast-n c = search needs
@@ -29,7 +29,7 @@ slots-sound-requires c κs = search needs
 returns-5 : tie.Need-returns-5
 returns-5 c = c .slots-sound .ensures ∙ view-slots (c .before .before .before .before .before .before .before .before .args .state) (c .before .before .before .before .before .before .before .before .args .work .now) (omega arith) (omega arith) (omega arith) (omega arith)
 
-pub sound-spec : {M : Type 1} → statement M
-sound-spec =
+pub is-sound-spec : {M : Type 1} → statement M
+is-sound-spec =
     tie.close
     (tie.spec cast-n returns returns-2 returns-3 mul-if4 returns-4 slots-sound-requires returns-5)

@@ -1,0 +1,49 @@
+-- Bytes padded with 0xFF.
+use Prim.Native.Nat.{ℕ, _+_, _-_, _≤_}
+use native.Mathlib.Omega.{arith}
+use mathlib.Core.Path.{_≡_, sym, ap, _∙_}
+use mathlib.Core.List.{List, _++_, append-assoc}
+use lib.ListN.{length, take, drop, replicate, length-replicate, replicate-append-replicate}
+use lib.Seq.{take-at, drop-at}
+use Rattle.bank.specs.Bank.{padded}
+use Rattle.bank.proofs.LengthLaws.{length-padded}
+
+-- 0xFF, n times
+abbrev pub blanks : ℕ → List ℕ
+blanks n = replicate n 255
+
+pub length-blanks : (n : ℕ) → length (blanks n) ≡ n
+length-blanks n = length-replicate n 255
+
+pub blanks-add : (m n : ℕ) → blanks m ++ blanks n ≡ blanks (m + n)
+blanks-add m n = replicate-append-replicate m n 255
+
+-- 0xFF behind bytes
+
+pub take-ff : (m n : ℕ) → m ≤ n → take m (blanks n) ≡ blanks m
+take-ff m n h =
+    let e : n ≡ m + (n - m) = omega arith in
+    ap (λ (i : ℕ). take m (blanks i)) e ∙ ap (take m) (sym (blanks-add m (n - m)))
+    ∙ take-at (blanks m) (blanks (n - m)) m (length-blanks m)
+
+pub drop-ff : (m n : ℕ) → m ≤ n → drop m (blanks n) ≡ blanks (n - m)
+drop-ff m n h =
+    let e : n ≡ m + (n - m) = omega arith in
+    ap (λ (i : ℕ). drop m (blanks i)) e ∙ ap (drop m) (sym (blanks-add m (n - m)))
+    ∙ drop-at (blanks m) (blanks (n - m)) m (length-blanks m)
+
+-- padded to n, x is padded to m and then to n
+module _ (x : List ℕ) (m n : ℕ) (h : length x ≤ m) (k : m ≤ n) where
+  pub padded-more : padded n x ≡ padded m x ++ blanks (n - m)
+  unfolding padded
+  padded-more =
+      let e : n - length x ≡ m - length x + (n - m) = omega arith in
+      ap (λ (i : ℕ). x ++ blanks i) e
+      ∙ ap (λ (l : List ℕ). x ++ l) (sym (blanks-add (m - length x) (n - m)))
+      ∙ sym (append-assoc x (blanks (m - length x)) (blanks (n - m)))
+
+  pub take-padded : take m (padded n x) ≡ padded m x
+  take-padded = ap (take m) padded-more ∙ take-at (padded m x) (blanks (n - m)) m (length-padded m x h)
+
+  pub drop-padded : drop m (padded n x) ≡ blanks (n - m)
+  drop-padded = ap (drop m) padded-more ∙ drop-at (padded m x) (blanks (n - m)) m (length-padded m x h)

@@ -1,0 +1,15 @@
+pub mod Trace
+pub mod Did
+pub mod Restored
+pub mod FlashLaws
+pub mod ReadLaws
+pub mod OutputLaws
+pub mod Aged
+pub mod ChoiceLaws
+pub mod Invariant
+pub mod Reopen
+pub mod Agree
+pub mod Pages
+pub mod Wear
+pub mod Demand
+pub mod Example

@@ -1,0 +1,84 @@
+-- Demand 3, of a run's pages, in the order of 01 ('A run, its book and the flash'). The proof that every run meets it is proofs/Demand.antt.
+use Prim.Native.Nat.{ℕ, _+_, _-_, _*_, _≤_, _<_, min}
+use mathlib.Core.Path.{_≡_}
+use mathlib.Core.Logic.{_≢_}
+use mathlib.Core.List.{List, [], _∷_, _++_}
+use mathlib.Core.Option.{Option, some}
+use lib.ListN.{length}
+use Rattle.bank.specs.declared.variable.VarType.{VarType}
+use Rattle.bank.specs.Bank.{Bank, valid}
+use Rattle.nvram.specs.declared.state.Nvram.{Nvram}
+use Rattle.nvram.specs.Part.{partSize}
+use Rattle.nvram.specs.Book.{Book, activeSlot}
+use Rattle.nvram.specs.Opening.{opening, opened}
+use Rattle.nvram.specs.Call.{lookup, fetch, committed, number, erase, step}
+use Rattle.nvram.specs.Contract.{begun, call}
+use Rattle.run.specs.Flash.{carriedOut}
+use Rattle.run.specs.Run.{Opens, Event, Run, Never, openedBook, Page, pages}
+use Rattle.run.specs.Wear.{activeSize, mostLive, insertedBytes, requests}
+
+-- the answers: number, found or none, place, length, value, erase request, write offset, length and bytes, joined bytes
+pub record Answers (p : Page) : Type 0 where
+  pub answer : p .event .answer ≡ step (p .before) (p .event .call) .answer
+  pub out : p .event .out ≡ step (p .before) (p .event .call) .out
+  pub not-6 : number (p .event .answer) ≢ 6
+
+-- the flash begins as the opened image; each accepted commit's erase request and write are carried out in order, and nothing else
+unfoldable pub flashAfter : List ℕ → List Page → List ℕ
+flashAfter flash [] = flash
+flashAfter flash (p ∷ ps) = flashAfter (carriedOut (p .event .answer) (p .event .out) flash) ps
+
+-- the flash reopens, with any work area that is long enough, to the book after a call, and its lookups answer as those in the state that
+-- the call left
+pub record Reopens (flash : List ℕ) (p : Page) : Type 0 where
+  pub book : Book
+  pub accepted : (work : List ℕ) → p .after .n * partSize ≤ length work → opening flash (length work) ≡ opened book
+  pub active : book .active ≡ p .after .active
+  pub bank : Bank
+  pub bank-there : activeSlot (p .after) ≡ valid bank
+  pub bank′ : Bank
+  pub bank-here : activeSlot book ≡ valid bank′
+  pub header : bank′ .header ≡ bank .header
+  pub records : bank′ .records ≡ bank .records
+  pub lookups : (work : List ℕ) → p .after .n * partSize ≤ length work → (key : List ℕ) (typ : VarType)
+      → (let x = begun (opening flash (length work)) work in call (lookup key typ) (x .state) (x .work) .answer)
+      ≡ call (lookup key typ) (p .event .state) (p .event .work) .answer
+  pub values : (work : List ℕ) → p .after .n * partSize ≤ length work → (key : List ℕ) (typ : VarType)
+      → (let x = begun (opening flash (length work)) work in call (fetch key typ) (x .state) (x .work) .out)
+      ≡ call (fetch key typ) (p .event .state) (p .event .work) .out
+
+-- what holds of each page, given the pages before it
+abbrev pub Each : List Page → (List Page → Page → Type 0) → Type 0
+Each ps P = (earlier : List Page) (p : Page) (later : List Page) → ps ≡ earlier ++ (p ∷ later) → P earlier p
+
+module _ (image : List ℕ) where
+  -- the number of banks, and the size in the header of the book's active bank
+  abbrev n : ℕ
+  n = openedBook image .n
+
+  abbrev S : ℕ
+  S = activeSize (openedBook image)
+
+  pub record Demand3 (ps : List Page) : Type 0 where
+    -- each call answers what the book answers
+    pub answers : Each ps (λ earlier p. Answers p)
+    -- S is one number throughout
+    pub one-size : Each ps (λ earlier p. activeSize (p .before) ≡ S)
+    -- between two erase requests for the same bank, n × (S − L + 1) bytes are inserted at least; nothing is asked where L > S
+    pub wear : (earlier : List Page) (first : Page) (between : List Page) (second : Page) (later : List Page) (offset : ℕ)
+        → ps ≡ earlier ++ (first ∷ (between ++ (second ∷ later)))
+        → erase (first .event .answer) ≡ some offset
+        → erase (second .event .answer) ≡ some offset
+        → (let L = mostLive (first ∷ between) in L ≤ S → n * (S - L + 1) ≤ insertedBytes between)
+    -- after every accepted commit from the first erase request on, the flash reopens to the book
+    pub reopening : Each ps (λ earlier p.
+        (e : Option ℕ) (offset long : ℕ) → p .event .answer ≡ committed 0 e offset long → 0 < requests (earlier ++ (p ∷ []))
+        → Reopens (flashAfter image (earlier ++ (p ∷ []))) p)
+    -- the state's tally is the number of erase requests answered since opening, up to its stop
+    pub tally : Each ps (λ earlier p. p .event .state .tally ≡ min (requests (earlier ++ (p ∷ []))) 4294967295)
+
+-- an accepted opening, a list of calls, and none of them refused by 12
+abbrev pub Claim : Type 0
+Claim =
+    (image work : List ℕ) (s : Nvram) (w : List ℕ) (es : List Event) → Opens image work s w → Run s w es → Never 12 es
+    → Demand3 image (pages (openedBook image) es)

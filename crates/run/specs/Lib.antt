@@ -1,0 +1,4 @@
+pub mod Flash
+pub mod Run
+pub mod Wear
+pub mod Demand

@@ -1,0 +1,60 @@
+-- What the wear bound counts (01, 'A run, its book and the flash').
+use Prim.Native.Nat.{ℕ, zero, suc, _+_, max}
+use mathlib.Core.List.{List, [], _∷_}
+use mathlib.Core.Option.{Option, none, some}
+use Rattle.bank.specs.Record.{sizeOf}
+use Rattle.bank.specs.Bank.{Slot, empty, invalid, valid}
+use Rattle.bank.specs.Figures.{liveTotal}
+use Rattle.nvram.specs.Edit.{fresh}
+use Rattle.nvram.specs.Book.{Book, activeSlot, slotSize}
+use Rattle.nvram.specs.Call.{Call, insert, remove, lookup, fetch, commit, wholeImage, number, erase}
+use Rattle.run.specs.Run.{Page}
+
+-- S: the size in the header of the book's active bank
+abbrev pub activeSize : Book → ℕ
+activeSize b = slotSize (activeSlot b)
+
+-- 24 plus the active bank's live record sizes, at a commit
+abbrev pub slotLive : Slot → ℕ
+slotLive empty = 0
+slotLive invalid = 0
+slotLive (valid k) = liveTotal k
+
+abbrev pub liveAt : Book → Call → ℕ
+liveAt b (insert key value typ) = 0
+liveAt b (remove key typ) = 0
+liveAt b (lookup key typ) = 0
+liveAt b (fetch key typ) = 0
+liveAt b (commit room) = slotLive (activeSlot b)
+liveAt b (wholeImage room) = 0
+
+-- L: the most that it comes to at the commits of a list, refused ones too
+unfoldable pub mostLive : List Page → ℕ
+mostLive [] = 0
+mostLive (p ∷ ps) = max (liveAt (p .before) (p .event .call)) (mostLive ps)
+
+-- the record size of an insert that is accepted
+abbrev pub added : Call → ℕ → ℕ
+added (insert key value typ) zero = sizeOf (fresh key value typ)
+added (insert key value typ) (suc k) = 0
+added (remove key typ) k = 0
+added (lookup key typ) k = 0
+added (fetch key typ) k = 0
+added (commit room) k = 0
+added (wholeImage room) k = 0
+
+-- the record sizes of a list's accepted inserts, summed without a stop
+unfoldable pub insertedBytes : List Page → ℕ
+insertedBytes [] = 0
+insertedBytes (p ∷ ps) = added (p .event .call) (number (p .event .answer)) + insertedBytes ps
+
+-- erase requests
+
+abbrev pub requested : Option ℕ → ℕ
+requested none = 0
+requested (some offset) = 1
+
+-- the number of erase requests answered in a list
+unfoldable pub requests : List Page → ℕ
+requests [] = 0
+requests (p ∷ ps) = requested (erase (p .event .answer)) + requests ps

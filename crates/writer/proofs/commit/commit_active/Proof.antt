@@ -1,0 +1,122 @@
+use mathlib.Core.Path.{_≡_, refl, sym, ap, _∙_}
+use mathlib.Core.Option.{none}
+use native.Mathlib.Omega.{arith}
+use lib.ListN.{length-map}
+use Rattle.nvram.specs.Commit.{judge}
+use Rattle.nvram.proofs.ActiveLaws.{active-in, part-within, holds}
+use Rattle.writer.specs.Answer.{verdict}
+use Rattle.writer.proofs.CommitLaws.{Known, sound, here, size-high, judged, due, refuses, stays, quiet, wrote}
+use borrow.Author.Needs.{needs}
+use Rattle.writer.proofs.commit.commit_active.Statement.{statement}
+use Rattle.writer.proofs.commit.commit_active.Tie as tie
+
+at-hand : (c : tie.After-slice-known2) → Known (c .before .before .args .t1) (c .before .before .args .work .now) (c .before .before .args .header)
+at-hand c =
+    record { bytes = λ i. omega (arith, c .before .slice-known .given i); long = simp length-map at (c .before .before .good .0 .1 .1 .1 .1 .1 .0 .1 .0 .1); active = c .before .before .pre .0 }
+
+decided : (c : tie.After-judge) → verdict (c .judge .result) ≡ judge (here (at-hand (c .before .before .before .before .before)))
+decided c =
+    let k = at-hand (c .before .before .before .before .before) in judged k (c .before .used .result) _ _ _ (c .before .used .ensures _ (holds (sound k) (k .active .kind))) refl refl (c .judge .ensures)
+
+cast-i : tie.Need-cast-i
+cast-i c = search needs
+
+mul-entry : tie.Need-mul-entry
+mul-entry c = search needs
+
+element-copy-out-entry : tie.Need-element-copy-out-entry
+element-copy-out-entry c = active-in (sound (at-hand c))
+
+mul-part : tie.Need-mul-part
+mul-part c = search needs
+
+add-from : tie.Need-add-from
+add-from c = search needs
+
+cast-to : tie.Need-cast-to
+cast-to c = search needs
+
+add-to : tie.Need-add-to
+add-to c = search needs
+
+used-requires : tie.Need-used-requires
+used-requires c κs = let k = at-hand (c .before .before .before) in (here k .records, holds (sound k) (k .active .kind))
+
+judge-requires : tie.Need-judge-requires
+judge-requires c κs = search needs
+
+enum-known-number : tie.Need-enum-known-number
+enum-known-number c = search needs
+
+refused-requires : tie.Need-refused-requires
+refused-requires c κs = search needs
+
+enum-told : tie.Need-enum-told
+enum-told c = search needs
+
+cast-write : tie.Need-cast-write
+cast-write c = search needs
+
+write-requires : tie.Need-write-requires
+write-requires c κs = let k = at-hand (c .before .before .before .before .before .before .before .before .before .before) in (active-in (sound k), size-high k, part-within (sound k), c .before .before .before .before .before .before .before .before .before .before .before .before .pre .1)
+
+enum-told-2 : tie.Need-enum-told-2
+enum-told-2 c = search needs
+
+move-on-requires : tie.Need-move-on-requires
+move-on-requires c κs = let k = at-hand (c .before .before .before .before .before .before .before .before .before) in (k .active, due k (sym (ap verdict (c .before .before .enum-told2 .given .1)) ∙ decided (c .before .before .before .before)), refl, refl, c .before .before .before .before .before .before .before .before .before .before .before .pre .1)
+
+same-length : tie.Need-same-length
+same-length c = search needs
+
+returns : tie.Need-returns
+returns c = let k = at-hand (c .before .before .before .before .before .before .before .before .before) in let a = c .before .before .before .before .before .before .before .before .before .before .before .args in
+    quiet (a .output .now) (c .refused .result) none _ (c .refused .ensures) (refuses k _ (c .before .before .before .before .before .before .before .before .before .before .before .pre .1) _ (sym (ap verdict (c .before .before .number .given .1)) ∙ decided (c .before .before .before .before)))
+
+same-length-2 : tie.Need-same-length-2
+same-length-2 c = search needs
+
+same-length-3 : tie.Need-same-length-3
+same-length-3 c = search needs
+
+returns-2 : tie.Need-returns-2
+returns-2 c = let k = at-hand (c .before .before .before .before .before .before .before .before .before .before .before .before .before) in let a = c .before .before .before .before .before .before .before .before .before .before .before .before .before .before .before .args in
+    wrote (a .output .now) (c .before .before .write .result) none _ (a .header .size) (size-high k) (part-within (sound k)) (c .before .before .write .ensures) (stays k _ (c .before .before .before .before .before .before .before .before .before .before .before .before .before .before .before .pre .1) (sym (ap verdict (c .before .before .before .before .before .before .enum-told .given .1)) ∙ decided (c .before .before .before .before .before .before .before .before)))
+
+same-length-4 : tie.Need-same-length-4
+same-length-4 c = search needs
+
+same-length-5 : tie.Need-same-length-5
+same-length-5 c = search needs
+
+returns-3 : tie.Need-returns-3
+returns-3 c = search needs
+
+pub commit-active-spec : {M : Type 1} → statement M
+commit-active-spec =
+    tie.close
+    (tie.spec
+    cast-i
+    mul-entry
+    element-copy-out-entry
+    mul-part
+    add-from
+    cast-to
+    add-to
+    used-requires
+    judge-requires
+    enum-known-number
+    refused-requires
+    enum-told
+    cast-write
+    write-requires
+    enum-told-2
+    move-on-requires
+    same-length
+    returns
+    same-length-2
+    same-length-3
+    returns-2
+    same-length-4
+    same-length-5
+    returns-3)

@@ -1,0 +1,5 @@
+pub mod Figures
+pub mod Move
+pub mod Answer
+pub mod Active
+pub mod Image

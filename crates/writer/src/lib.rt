@@ -1,0 +1,11 @@
+// What is written to the flash: the commit and the whole image.
+mod carry;
+mod commit;
+mod figures;
+mod image;
+
+pub use commit::Applied;
+pub use commit::Erase;
+pub use commit::apply;
+pub use image::Serialized;
+pub use image::serialize;
