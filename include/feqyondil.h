@@ -28,15 +28,21 @@ extern "C" {
 #define FEQYONDIL_SYSTEM 1u
 
 /* Numbers of a call; all but the first refuse, and a refusal changes nothing that was lent,
-   except as feqyondil_open and feqyondil_lookup say. */
+   except as feqyondil_open, feqyondil_lookup, feqyondil_commit and feqyondil_whole_image say. */
 #define FEQYONDIL_OK 0u
-#define FEQYONDIL_IMAGE_SHORT 1u  /* the image is below 65,536 bytes */
-#define FEQYONDIL_IMAGE_LONG 2u   /* the image is of 1,114,112 bytes or more */
-#define FEQYONDIL_WORK_SHORT 3u   /* the work area is below 131,072 bytes per bank */
-#define FEQYONDIL_NO_VALID 4u     /* no bank is Valid */
-#define FEQYONDIL_NOT_SOUND 6u    /* state and work area are not those of an opened store */
-#define FEQYONDIL_NOT_VALID 7u    /* the active bank isn't Valid */
-#define FEQYONDIL_FULL 8u         /* insert would bring the bank's total over 131,072 */
+#define FEQYONDIL_IMAGE_SHORT 1u   /* the image is below 65,536 bytes */
+#define FEQYONDIL_IMAGE_LONG 2u    /* the image is of 1,114,112 bytes or more */
+#define FEQYONDIL_WORK_SHORT 3u    /* the work area is below 131,072 bytes per bank */
+#define FEQYONDIL_NO_VALID 4u      /* no bank is Valid */
+#define FEQYONDIL_OUTPUT_SHORT 5u  /* the output is below 65,536 bytes; whole image: per bank */
+#define FEQYONDIL_NOT_SOUND 6u     /* state and work area are not those of an opened store */
+#define FEQYONDIL_NOT_VALID 7u     /* the active bank isn't Valid */
+#define FEQYONDIL_FULL 8u          /* insert would bring the bank's total over 131,072 */
+#define FEQYONDIL_SYSTEM_LIMIT 9u  /* live system values are over the header's limit */
+#define FEQYONDIL_COMMON_LIMIT 10u /* live common values are over the header's limit */
+#define FEQYONDIL_LAST_MOVE 11u    /* the bank is to move, and its generation is 4,294,967,295 */
+#define FEQYONDIL_MOVED_OVER 12u   /* the bank has moved, and its live values are over its size */
+#define FEQYONDIL_BANK_OVER 13u    /* a Valid bank's total is over its size */
 
 /* Kinds of a bank, as feqyondil_partition_parse answers them. */
 #define FEQYONDIL_SLOT_SHORT 0u   /* too few bytes were lent */
@@ -132,6 +138,32 @@ uint32_t feqyondil_lookup(const uint8_t *state, size_t state_len, const uint8_t 
  */
 size_t feqyondil_value(const uint8_t *state, size_t state_len, const uint8_t *work, size_t work_len,
                        const uint8_t *key, size_t key_len, uint32_t type, uint8_t *out, size_t out_len);
+
+/*
+ * Answers what to do to the flash so that it holds the active bank, and puts the bytes to write at
+ * the front of output, which has at least 65,536; output behind them stays. Where the bank is full
+ * it moves to the next one, its live values only, and that one becomes active.
+ *
+ * requests gets 1 and the offset of the bank to erase, all 65,536 bytes of it, or 0 and 0; then the
+ * write's offset and its length in output. The caller erases first, then writes: to the flash that
+ * was opened, and nothing else. The state's tally counts the erase requests since the opening and
+ * stops at 4,294,967,295.
+ *
+ * Refusals: 6, 5, 7, 9, 10, 11, in this order; requests then gets zeros and the rest stays as it
+ * was. Last 12: output stays, but state and work area have moved, the tally has counted, and
+ * requests has the erase, with zeros for the write.
+ */
+uint32_t feqyondil_commit(uint8_t *state, size_t state_len, uint8_t *work, size_t work_len, uint8_t *output,
+                          size_t output_len, uint64_t requests[4]);
+
+/*
+ * Joins the Valid banks, each at its own size, at the front of output, which has at least 65,536
+ * bytes per bank; output behind them stays. length gets how many bytes they are.
+ *
+ * Refusals: 6, 5 and 13, of which each leaves output as it was; length then gets 0.
+ */
+uint32_t feqyondil_whole_image(const uint8_t *state, size_t state_len, const uint8_t *work, size_t work_len,
+                               uint8_t *output, size_t output_len, uint64_t length[1]);
 
 #ifdef __cplusplus
 }

@@ -9,6 +9,7 @@ use nvram::Entry;
 use nvram::Kind;
 use nvram::Lookup;
 use nvram::Nvram;
+use writer::Erase;
 ghost use mathlib.Core.Path.{_≡_};
 ghost use Prim.Native.Nat.{_≤_, _<_};
 ghost use lib.ListN.{length};
@@ -23,6 +24,13 @@ fn value_room() -> [u8; 131072]
     ensures { λ r. ⌜ 131072 ≡ length r ⌝ }
 {
     [0; 131072]
+}
+
+// For three banks, the most that a run of the list has.
+fn output_room() -> [u8; 196608]
+    ensures { λ r. ⌜ 196608 ≡ length r ⌝ }
+{
+    [0; 196608]
 }
 
 fn typ(line: &[u8]) -> VarType {
@@ -83,6 +91,50 @@ pub(crate) fn value_right(state: Nvram, work: &[u8], line: &[u8]) -> bool {
     let k = put_bytes(&mut key, 0, field(line, 2));
     let value = state.value(work, &key[0..k], typ(line));
     (decimal(line, 3) == value.len() as u64) & (hex(line, 4) == crc32::crc32(value) as u64)
+}
+
+// Whether a commit answered what its line says, and the state after it.
+pub(crate) struct Committed {
+    pub(crate) right: bool,
+    pub(crate) state: Nvram,
+}
+
+// Whether field k is the length of what the output begins with, and field k + 1 its checksum.
+fn output_right(line: &[u8], k: usize, output: &[u8], long: usize) -> bool
+    requires { ⌜ k < 16 ⌝ }
+{
+    if output.len() < long {
+        return false;
+    }
+    (decimal(line, k) == long as u64) & (hex(line, k + 1) == crc32::crc32(&output[0..long]) as u64)
+}
+
+fn erase_right(line: &[u8], erase: Erase) -> bool {
+    match erase {
+        Erase::Nothing => (decimal(line, 2) == 0) & (decimal(line, 3) == 0),
+        Erase::At(offset) => (decimal(line, 2) == 1) & (decimal(line, 3) == offset as u64),
+    }
+}
+
+pub(crate) fn commit(state: Nvram, work: &mut [u8], line: &[u8]) -> Committed {
+    let mut output = output_room();
+    let done = writer::apply(state, work, &mut output);
+    let after = done.state;
+    let erase = done.erase;
+    let right = (decimal(line, 1) == done.number as u64)
+        & erase_right(line, erase)
+        & (decimal(line, 4) == done.offset as u64)
+        & output_right(line, 5, &output, done.length);
+    Committed {
+        right,
+        state: after,
+    }
+}
+
+pub(crate) fn whole_right(state: Nvram, work: &[u8], line: &[u8]) -> bool {
+    let mut output = output_room();
+    let done = writer::serialize(state, work, &mut output);
+    (decimal(line, 1) == done.number as u64) & output_right(line, 2, &output, done.length)
 }
 
 fn kind_number(kind: Kind) -> u64 {

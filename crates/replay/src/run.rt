@@ -1,9 +1,11 @@
 // A run: its lines one after the other.
+use super::calls::commit;
 use super::calls::insert;
 use super::calls::lookup_right;
 use super::calls::remove;
 use super::calls::state_right;
 use super::calls::value_right;
+use super::calls::whole_right;
 use super::calls::work_right;
 use super::fields::decimal;
 use super::fields::end;
@@ -133,6 +135,16 @@ impl Walk {
         }
     }
 
+    fn commit(self, line: &[u8], work: &mut [u8]) -> Walk {
+        let done = commit(self.state, work, line);
+        let state = done.state;
+        Walk {
+            right: self.right & done.right,
+            long: self.long,
+            state,
+        }
+    }
+
     // A line that changes nothing; one with # or none at all is for the reader.
     fn check(self, line: &[u8], kind: u8, work: &[u8]) -> Walk {
         let state = self.state;
@@ -141,6 +153,9 @@ impl Walk {
         }
         if kind == b'V' {
             return self.with_right(value_right(state, work, line));
+        }
+        if kind == b'A' {
+            return self.with_right(whole_right(state, work, line));
         }
         if kind == b'S' {
             return self.with_right(state_right(state, line));
@@ -161,6 +176,9 @@ impl Walk {
         }
         if kind == b'D' {
             return self.after(line, 3, remove(state, work, line));
+        }
+        if kind == b'C' {
+            return self.commit(line, work);
         }
         self.check(line, kind, work)
     }

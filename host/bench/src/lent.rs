@@ -1,6 +1,6 @@
-//! The port's edits, undone after each call.
+//! The port's calls; edits are undone after each.
 
-use image::{number, Record, RECORD};
+use image::{number, put_number, Record, BANK, RECORD};
 use port::lent::{PART, STATE};
 
 /// What an insert puts in the place of the last record's value.
@@ -10,6 +10,8 @@ pub const VALUE: &[u8] = b"another value of 19";
 pub struct Lent {
     pub state: [u8; STATE],
     pub work: Vec<u8>,
+    /// For a commit or a whole image.
+    pub output: Vec<u8>,
     /// Bytes of the active bank's last record, and where it ends.
     last: usize,
     end: usize,
@@ -20,6 +22,7 @@ impl Lent {
         Lent {
             state: [0; STATE],
             work: vec![0; banks * PART],
+            output: vec![0; banks * BANK],
             last: last.bytes().len(),
             end: 0,
         }
@@ -28,10 +31,17 @@ impl Lent {
     /// Answers 1 if it was opened.
     pub fn open(&mut self, image: &[u8]) -> u32 {
         let answer = port::lent::open(image, &mut self.state, &mut self.work);
-        let active = number(&self.state, 4) as usize;
-        let total = number(&self.state, 16 + 12 * active) as usize;
-        self.end = active * PART + total;
+        self.end = self.active() * PART + self.total();
         u32::from(answer == 0)
+    }
+
+    pub fn active(&self) -> usize {
+        number(&self.state, 4) as usize
+    }
+
+    /// Of the active bank.
+    pub fn total(&self) -> usize {
+        number(&self.state, 16 + 12 * self.active()) as usize
     }
 
     /// Answers the value's place, which is not 0.
@@ -45,6 +55,10 @@ impl Lent {
     pub fn insert(&mut self, key: &[u8]) -> u32 {
         let before = self.state;
         port::lent::insert(&mut self.state, &mut self.work, key, VALUE, 1);
+        self.take_back(key, before)
+    }
+
+    fn take_back(&mut self, key: &[u8], before: [u8; STATE]) -> u32 {
         let len = RECORD + key.len() + 1 + VALUE.len();
         self.work[self.end..self.end + len].fill(0xFF);
         self.state = before;
@@ -54,6 +68,35 @@ impl Lent {
     pub fn remove(&mut self, key: &[u8]) -> u32 {
         port::lent::remove(&self.state, &mut self.work, key, 1);
         self.revive()
+    }
+
+    /// Answers 1 if it was accepted.
+    pub fn commit(&mut self) -> u32 {
+        let mut requests = [0; 4];
+        let (state, work) = (&mut self.state, &mut self.work);
+        let number = port::lent::commit(state, work, &mut self.output, &mut requests);
+        u32::from(number == 0)
+    }
+
+    /// Inserts over the last record, commits, and takes the insert back.
+    pub fn insert_commit(&mut self, key: &[u8]) -> u32 {
+        let before = self.state;
+        port::lent::insert(&mut self.state, &mut self.work, key, VALUE, 1);
+        self.commit() & self.take_back(key, before)
+    }
+
+    /// With one byte less usable than there are records, which makes the bank move.
+    pub fn commit_moved(&mut self) -> u32 {
+        let (entry, total) = (12 + 12 * self.active(), self.total());
+        put_number(&mut self.state, entry + 8, total as u32 - 1);
+        self.commit()
+    }
+
+    /// Answers the length.
+    pub fn whole(&mut self) -> u32 {
+        let mut length = [0];
+        port::lent::whole_image(&self.state, &self.work, &mut self.output, &mut length);
+        length[0] as u32
     }
 
     fn revive(&mut self) -> u32 {

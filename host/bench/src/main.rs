@@ -4,6 +4,7 @@
 mod blocks;
 mod bytewise;
 mod checksum;
+mod commit;
 mod lent;
 mod measure;
 mod partition;
@@ -42,5 +43,6 @@ fn main() -> ExitCode {
     checksum::run(effort);
     partition::run(effort);
     store::run(effort);
+    commit::run(effort);
     ExitCode::SUCCESS
 }

@@ -15,15 +15,15 @@ use crate::partition::{small, spread, word};
 /// A lookup over the Rust that makes the same comparisons in blocks.
 const LOOKUP_BAR: f64 = 1.5;
 
-struct Case {
-    name: &'static str,
-    banks: usize,
-    records: Vec<Record>,
-    /// What the port's opening is to stay under, over the Rust's.
-    most: f64,
+pub struct Case {
+    pub name: &'static str,
+    pub banks: usize,
+    pub records: Vec<Record>,
+    /// What the port's opening is to stay under, over the Rust's; its commits too.
+    pub most: f64,
 }
 
-fn cases() -> Vec<Case> {
+pub fn cases() -> Vec<Case> {
     let one = vec![Record::live(b"rate", b"123456789")];
     let full = small(BANK - HEADER);
     let case = |name, banks, records: &[Record], most| Case {
@@ -41,18 +41,26 @@ fn cases() -> Vec<Case> {
 }
 
 impl Case {
-    /// Every bank is Valid, and the last is the active one.
-    fn image(&self) -> Vec<u8> {
+    /// Every bank is Valid, and the last is the active one. No limit is reached.
+    pub fn image(&self) -> Vec<u8> {
         let bank = |generation| Header {
             generation,
+            system_limit: u32::MAX,
             ..Header::default()
         };
         let banks = (1..=self.banks as u32).map(|g| image::bank(&bank(g), &self.records));
         banks.collect::<Vec<_>>().concat()
     }
 
+    /// The port's state and work area of this image.
+    pub fn opened(&self, image: &[u8]) -> Lent {
+        let mut lent = Lent::new(self.banks, self.last());
+        assert_eq!(lent.open(image), 1);
+        lent
+    }
+
     /// The record that a walk reaches last.
-    fn last(&self) -> &Record {
+    pub fn last(&self) -> &Record {
         &self.records[self.records.len() - 1]
     }
 }
@@ -92,8 +100,7 @@ fn opening(case: &Case, effort: Effort) -> String {
 
 fn lookups(case: &Case, effort: Effort) -> String {
     let image = case.image();
-    let mut lent = Lent::new(case.banks, case.last());
-    lent.open(&image);
+    let lent = case.opened(&image);
     let store = RefCell::new(v3::Nvram::parse(&image).expect("Valid banks"));
     let tables = Tables::new();
     let in_blocks = |key: &[u8]| {
@@ -116,9 +123,7 @@ fn lookups(case: &Case, effort: Effort) -> String {
 /// Each edit is undone by a few bytes, so that the next call finds what it found.
 fn edits(case: &Case, effort: Effort) {
     let image = case.image();
-    let mut opened = Lent::new(case.banks, case.last());
-    opened.open(&image);
-    let lent = RefCell::new(opened);
+    let lent = RefCell::new(case.opened(&image));
     let store = RefCell::new(v3::Nvram::parse(&image).expect("Valid banks"));
     let rust = |key: &[u8]| rust_insert(&mut store.borrow_mut(), key);
     let port = |key: &[u8]| lent.borrow_mut().insert(key);
@@ -158,18 +163,18 @@ fn rust_remove(store: &mut v3::Nvram, key: &[u8]) -> u32 {
 }
 
 /// The last record is live again; answers 1 if it was killed.
-fn revive(bank: &mut v3::Partition) -> u32 {
+pub fn revive(bank: &mut v3::Partition) -> u32 {
     let last = bank.values.last_mut().expect("a record");
     let killed = last.header.state == 0x7C;
     last.header.state = 0x7F;
     u32::from(killed)
 }
 
-fn contender<'a>(name: &'static str, call: &'a dyn Fn(&[u8]) -> u32) -> Contender<'a> {
+pub fn contender<'a>(name: &'static str, call: &'a dyn Fn(&[u8]) -> u32) -> Contender<'a> {
     Contender { name, call }
 }
 
-fn print_figures(contenders: &[Contender], figures: &[Figures]) {
+pub fn print_figures(contenders: &[Contender], figures: &[Figures]) {
     for (contender, own) in contenders.iter().zip(figures) {
         println!(
             "    {:<44} {:>12.1} ns {:>26} {:>8.2} x first",
@@ -181,7 +186,7 @@ fn print_figures(contenders: &[Contender], figures: &[Figures]) {
     }
 }
 
-fn verdict(name: &str, ratio: &Figures, most: f64) -> String {
+pub fn verdict(name: &str, ratio: &Figures, most: f64) -> String {
     let (word, spread) = (word(ratio, most), spread(ratio));
     format!("  {word}: {name}: {spread}, bar {most}")
 }
@@ -194,8 +199,7 @@ mod tests {
     fn every_call_does_what_it_is_timed_for() {
         for case in &cases()[..2] {
             let (image, key) = (case.image(), &case.last().key);
-            let mut lent = Lent::new(case.banks, case.last());
-            assert_eq!(lent.open(&image), 1);
+            let mut lent = case.opened(&image);
             let (state, work) = (lent.state, lent.work.clone());
             for _ in 0..2 {
                 assert_eq!((lent.insert(key), lent.remove(key)), (1, 1));

@@ -3,13 +3,20 @@
 
 mod book;
 mod call;
+mod commit;
+mod demand;
 mod edges;
 mod fixed;
+mod fixed_commits;
+mod flash;
 mod fuzz;
 mod least;
 mod lent;
 mod make;
+mod moving;
+mod reading;
 mod replay;
+mod requests;
 mod run;
 mod rust;
 mod same;
@@ -19,6 +26,7 @@ mod spoil;
 mod state;
 mod tally;
 mod told;
+mod wear;
 mod wrapper;
 
 use crate::rng::Rng;
@@ -37,7 +45,9 @@ pub fn run(mode: Mode, rng: &mut Rng) -> Result<u64, String> {
     judge.part("at the lengths' edges", |j| j.edges())?;
     judge.part("the fixed list", |j| j.fixed())?;
     let count = mode.pick(600, 24_000);
-    judge.part("random", |j| j.random(count, rng))?;
+    judge.part("random", |j| j.random(count, make::run, rng))?;
+    let count = mode.pick(120, 26_000);
+    judge.part("banks that move", |j| j.random(count, moving::run, rng))?;
     let fuzzed = fuzz::run(&Port, mode.pick(4_000, 200_000), Standing::Guarded(3), rng)?;
     Ok(judge.tally.all_runs() + fuzzed)
 }
@@ -46,8 +56,9 @@ pub fn run(mode: Mode, rng: &mut Rng) -> Result<u64, String> {
 pub fn memcheck(rng: &mut Rng) -> Result<u64, String> {
     let mut judge = Judge::new(&Port);
     judge.part("alone in memory", |j| {
-        (0..MEMCHECKED).try_for_each(|_| {
-            let mut run = make::run(rng);
+        (0..MEMCHECKED).try_for_each(|i| {
+            let make = if i % 2 == 0 { make::run } else { moving::run };
+            let mut run = make(rng);
             run.standing = Standing::Alone;
             j.judge(&run)
         })
@@ -87,9 +98,9 @@ impl<'a> Judge<'a> {
         replay::runs().iter().try_for_each(|run| self.judge(run))
     }
 
-    fn random(&mut self, count: usize, rng: &mut Rng) -> Outcome {
+    fn random(&mut self, count: usize, make: fn(&mut Rng) -> Run, rng: &mut Rng) -> Outcome {
         (0..count).try_for_each(|i| {
-            let run = make::run(rng);
+            let run = make(rng);
             if i % 4 == 0 {
                 wrapper::compare(&run).map_err(|fault| wrong(&run, &fault))?;
             }
@@ -117,5 +128,11 @@ fn wrong(run: &Run, answers: &str) -> String {
     format!("DIFFERENCE in a run of the store\n{shown}\n{answers}")
 }
 
+#[cfg(test)]
+mod commit_tests;
+#[cfg(test)]
+mod difference_tests;
+#[cfg(test)]
+mod faulty;
 #[cfg(test)]
 mod tests;

@@ -57,10 +57,28 @@ extern "C" {
         out: *mut u8,
         out_len: usize,
     ) -> usize;
+    fn feqyondil_commit(
+        state: *mut u8,
+        state_len: usize,
+        work: *mut u8,
+        work_len: usize,
+        output: *mut u8,
+        output_len: usize,
+        requests: *mut [u64; 4],
+    ) -> u32;
+    fn feqyondil_whole_image(
+        state: *const u8,
+        state_len: usize,
+        work: *const u8,
+        work_len: usize,
+        output: *mut u8,
+        output_len: usize,
+        length: *mut [u64; 1],
+    ) -> u32;
 }
 
 // SAFETY: of each call below, every pointer and length are those of one live slice; what the
-// port writes is lent for writing, so it is apart from everything else that is lent; the
+// port writes is lent for writing, so it is apart from everything else that is lent; an
 // array has the length that the port writes.
 
 /// Opens `image`: 0, or a refusal from 1 to 4; 6 where `state` is too short.
@@ -116,4 +134,32 @@ pub fn value(state: &[u8], work: &[u8], key: &[u8], typ: u32, out: &mut [u8]) ->
             state, state_len, work, work_len, key, key_len, typ, out, out_len,
         )
     }
+}
+
+/// Commits: 0, 5, 6, 7, or 9 to 12. `requests` becomes whether a bank is to be erased (1 or 0) and
+/// its offset, then the offset and the length of the write, whose bytes `output` begins with.
+pub fn commit(
+    state: &mut [u8],
+    work: &mut [u8],
+    output: &mut [u8],
+    requests: &mut [u64; 4],
+) -> u32 {
+    let (state, state_len) = (state.as_mut_ptr(), state.len());
+    let (work, work_len) = (work.as_mut_ptr(), work.len());
+    let (output, output_len) = (output.as_mut_ptr(), output.len());
+    // SAFETY: as above.
+    unsafe {
+        feqyondil_commit(
+            state, state_len, work, work_len, output, output_len, requests,
+        )
+    }
+}
+
+/// Joins the Valid banks in `output`: 0, 5, 6 or 13; `length` becomes how many bytes they are.
+pub fn whole_image(state: &[u8], work: &[u8], output: &mut [u8], length: &mut [u64; 1]) -> u32 {
+    let (state, state_len) = (state.as_ptr(), state.len());
+    let (work, work_len) = (work.as_ptr(), work.len());
+    let (output, output_len) = (output.as_mut_ptr(), output.len());
+    // SAFETY: as above.
+    unsafe { feqyondil_whole_image(state, state_len, work, work_len, output, output_len, length) }
 }

@@ -4,11 +4,13 @@
 //! A slice of Rattle is two C parameters, a pointer and a length; a reference
 //! to an array is one pointer.
 
+mod commit;
 pub mod lent;
 mod partition;
 mod refusal;
 mod store;
 
+pub use commit::{Commit, NotCommitted};
 pub use partition::{partition_parse, partition_serialize, Partition, Slot};
 pub use refusal::Refusal;
 pub use store::{Store, VarType};

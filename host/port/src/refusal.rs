@@ -11,19 +11,31 @@ pub enum Refusal {
     LongImage = 2,
     ShortWork = 3,
     NoValidBank = 4,
+    ShortOutput = 5,
     Unsound = 6,
     ActiveNotValid = 7,
     Full = 8,
+    SystemLimit = 9,
+    CommonLimit = 10,
+    LastMove = 11,
+    MovedOver = 12,
+    BankOver = 13,
 }
 
-const ALL: [Refusal; 7] = [
+const ALL: [Refusal; 13] = [
     Refusal::ShortImage,
     Refusal::LongImage,
     Refusal::ShortWork,
     Refusal::NoValidBank,
+    Refusal::ShortOutput,
     Refusal::Unsound,
     Refusal::ActiveNotValid,
     Refusal::Full,
+    Refusal::SystemLimit,
+    Refusal::CommonLimit,
+    Refusal::LastMove,
+    Refusal::MovedOver,
+    Refusal::BankOver,
 ];
 
 impl Refusal {
@@ -49,9 +61,15 @@ impl Display for Refusal {
             Refusal::LongImage => "the image has more than 16 banks",
             Refusal::ShortWork => "the work area is too short for the image",
             Refusal::NoValidBank => "no bank of the image is Valid",
+            Refusal::ShortOutput => "the output is too short",
             Refusal::Unsound => "state and work area are not a store's",
             Refusal::ActiveNotValid => "the active bank is not Valid",
             Refusal::Full => "the record does not fit into the bank's work area",
+            Refusal::SystemLimit => "system values are over their limit",
+            Refusal::CommonLimit => "common values are over their limit",
+            Refusal::LastMove => "the bank is to move, and its generation is the last",
+            Refusal::MovedOver => "the bank has moved, and its values are over its size",
+            Refusal::BankOver => "a bank's records are over its size",
         })
     }
 }
@@ -73,8 +91,8 @@ mod tests {
     }
 
     #[test]
-    #[should_panic(expected = "the port answered 5")]
+    #[should_panic(expected = "the port answered 14")]
     fn another_number_is_a_fault() {
-        let _ = Refusal::check(5);
+        let _ = Refusal::check(14);
     }
 }

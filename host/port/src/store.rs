@@ -2,6 +2,7 @@
 
 use std::ops::Range;
 
+use crate::commit::{self, Commit, NotCommitted};
 use crate::lent::{self, PART, STATE};
 use crate::refusal::Refusal;
 
@@ -80,6 +81,25 @@ impl Store {
         lent::value(&self.state, &self.work, key, typ.number(), out)
     }
 
+    /// What the flash is to be told, so that it holds what the store does; the bank moves on
+    /// where it is full. The flash is the image that was opened, and what commits made of it.
+    pub fn commit(&mut self) -> Result<Commit, NotCommitted> {
+        let (mut output, mut requests) = (vec![0; BANK], [u64::MAX; 4]);
+        let (state, work) = (&mut self.state, &mut self.work);
+        let number = lent::commit(state, work, &mut output, &mut requests);
+        commit::told(number, requests, output)
+    }
+
+    /// The Valid banks joined, each at its own size.
+    pub fn whole_image(&self) -> Result<Vec<u8>, Refusal> {
+        let mut output = vec![0; self.work.len() / PART * BANK];
+        let mut length = [u64::MAX];
+        let number = lent::whole_image(&self.state, &self.work, &mut output, &mut length);
+        Refusal::check(number)?;
+        output.truncate(length[0] as usize);
+        Ok(output)
+    }
+
     /// The state as it is lent to the port.
     pub fn state(&self) -> &[u8; STATE] {
         &self.state
@@ -130,6 +150,38 @@ mod tests {
     }
 
     #[test]
+    fn a_commit_is_written_and_reopened() {
+        let mut flash = [image(), vec![0xFF; BANK]].concat();
+        flash[8] = 2; // the generation
+        let mut store = Store::open(&flash).unwrap();
+        store.insert(b"rate", b"123456789", System).unwrap();
+        let done = store.commit().unwrap();
+        assert_eq!((done.erase, done.offset, done.bytes.len()), (None, 0, BANK));
+        flash[..BANK].copy_from_slice(&done.bytes);
+        assert_eq!(store.whole_image().unwrap(), flash[..BANK]);
+        let again = Store::open(&flash).unwrap();
+        assert_eq!(again.get(b"rate", System), Ok(Some(&b"123456789"[..])));
+        assert_eq!((again.state(), again.work()), (store.state(), store.work()));
+    }
+
+    #[test]
+    fn a_move_asks_for_the_erase_of_the_next_bank() {
+        let mut store = Store::open(&[image(), vec![0; BANK]].concat()).unwrap();
+        let value = vec![7; BANK - 24 - 37];
+        store.insert(b"", &value, Common).unwrap();
+        assert_eq!(store.commit().unwrap().erase, None);
+        store.insert(b"", b"", Common).unwrap();
+        let moved = store.commit().unwrap();
+        assert_eq!((moved.erase, moved.offset), (Some(BANK), BANK));
+        assert_eq!(moved.bytes[8], 2);
+        store.insert(b"k", &value, Common).unwrap();
+        let over = NotCommitted::Moved { erase: Some(0) };
+        assert_eq!(store.commit(), Err(over));
+        assert_eq!(store.state()[8], 2); // the tally
+        assert_eq!(store.whole_image(), Err(Refusal::BankOver));
+    }
+
+    #[test]
     fn refusals_are_told() {
         let refused = |image: &[u8]| Store::open(image).err();
         assert_eq!(refused(&image()[1..]), Some(Refusal::ShortImage));
@@ -141,6 +193,8 @@ mod tests {
         let mut store = Store::open(&invalid_first).unwrap();
         let not_valid = Err(Refusal::ActiveNotValid);
         assert_eq!(store.remove(b"", Common), not_valid);
+        let refused = NotCommitted::Refused(Refusal::ActiveNotValid);
+        assert_eq!(store.commit(), Err(refused));
         let mut store = Store::open(&image()).unwrap();
         let most = vec![7; PART - 24 - 37];
         let full = Err(Refusal::Full);

@@ -1,18 +1,19 @@
-//! The store by the words of the scope paper (01), 'Opening', 'Edits and lookups' and
-//! 'Refusals': written from them and from neither side's code.
+//! The store by the words of the scope paper (01), 'Opening', 'Edits and lookups', 'Refusals' and
+//! 'A run, its book and the flash': written from them and from neither side's code.
 
 use image::{Header, Record, BANK, COMMON_GUID, HEADER, RECORD, SYSTEM_GUID};
 
 use super::call::{Answer, Call, What};
+use super::reading::slot;
 use super::state::{Entry, State, EMPTY, INVALID, VALID};
-use crate::partition::{model, view};
+use crate::partition::model;
 
 /// Bytes of work area for each bank.
 pub const PART: usize = 131_072;
 /// Images of this length or more are refused.
 pub const TOO_LONG: usize = 1_114_112;
 
-const LIVE: u8 = 0x7F;
+pub const LIVE: u8 = 0x7F;
 const DEAD: u8 = 0x7C;
 
 #[derive(Clone, Debug, PartialEq)]
@@ -62,8 +63,17 @@ impl Book {
         })
     }
 
-    /// What a call answers; an accepted edit changes the active bank.
+    /// What a call answers; an accepted edit changes the active bank, a commit may move it.
     pub fn answer(&mut self, call: &Call) -> Answer {
+        match call.what {
+            What::Commit(room) => self.commit(call, room),
+            What::Whole(room) => self.whole(call, room),
+            What::Lookup | What::Value(_) => self.lookup(call),
+            What::Insert(_) | What::Remove => self.edit(call),
+        }
+    }
+
+    fn edit(&mut self, call: &Call) -> Answer {
         let Some(bank) = self.active_bank() else {
             return call.refused(7);
         };
@@ -75,14 +85,10 @@ impl Book {
                 }
                 bank.kill(call);
                 bank.records.push(record);
-                Answer::Number(0)
             }
-            What::Remove => {
-                bank.kill(call);
-                Answer::Number(0)
-            }
-            What::Lookup | What::Value(_) => self.lookup(call),
+            _ => bank.kill(call),
         }
+        Answer::Number(0)
     }
 
     fn lookup(&self, call: &Call) -> Answer {
@@ -104,6 +110,11 @@ impl Book {
             Slot::Valid(bank) => Some(bank),
             _ => None,
         }
+    }
+
+    /// The active bank's, which a move raises.
+    pub fn generation(&mut self) -> Option<u32> {
+        self.active_bank().map(|bank| bank.header.generation)
     }
 
     pub fn state(&self) -> State {
@@ -141,11 +152,10 @@ impl Slot {
 
     /// Its part of the work area.
     pub fn part(&self) -> Vec<u8> {
-        let mut out = Vec::with_capacity(PART);
-        if let Slot::Valid(bank) = self {
-            out.extend(bank.header.bytes());
-            bank.records.iter().for_each(|r| out.extend(r.bytes()));
-        }
+        let mut out = match self {
+            Slot::Valid(bank) => bank.bytes(),
+            _ => Vec::new(),
+        };
         out.resize(PART, 0xFF);
         out
     }
@@ -155,6 +165,14 @@ impl Bank {
     /// The header and all records, dead ones too.
     pub fn total(&self) -> usize {
         HEADER + self.records.iter().map(size).sum::<usize>()
+    }
+
+    /// Header and records as they would be written.
+    pub fn bytes(&self) -> Vec<u8> {
+        let mut out = Vec::with_capacity(PART);
+        out.extend(self.header.bytes());
+        self.records.iter().for_each(|r| out.extend(r.bytes()));
+        out
     }
 
     fn kill(&mut self, call: &Call) {
@@ -202,45 +220,6 @@ fn active(slots: &[Slot]) -> usize {
         }
     }
     active
-}
-
-/// A slot as the model of banks reads it.
-fn slot(read: &view::Slot) -> Slot {
-    match read {
-        view::Slot::Empty => Slot::Empty,
-        view::Slot::Invalid => Slot::Invalid,
-        view::Slot::Valid(bank) => Slot::Valid(Bank {
-            header: header(&bank.header),
-            records: bank.records.iter().map(record).collect(),
-            usable: bank.usable,
-        }),
-    }
-}
-
-pub fn header(read: &view::Header) -> Header {
-    Header {
-        size: read.size,
-        generation: read.generation,
-        state: read.state,
-        flags: read.flags,
-        version: 1,
-        reserved: 0,
-        system_limit: read.system_limit,
-        common_limit: read.common_limit,
-    }
-}
-
-/// The checksum is right in whatever was read, so it is left out.
-pub fn record(read: &view::Record) -> Record {
-    Record {
-        state: read.state,
-        reserved: 0,
-        attributes: read.attributes,
-        guid: read.guid.try_into().expect("16 bytes"),
-        key: read.key.to_vec(),
-        closing: 0,
-        value: read.value.to_vec(),
-    }
 }
 
 #[cfg(test)]

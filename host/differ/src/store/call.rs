@@ -4,13 +4,17 @@ use std::fmt::{self, Display, Formatter};
 
 /// More bytes than these are counted, not printed.
 const PRINTED: usize = 32;
-/// What the room for a value holds before a call.
+/// What the room for a value, or an output, holds before a call.
 pub const ROOM: u8 = 0xA5;
+/// What a commit asks: whether to erase and where, where to write and how many bytes.
+pub type Asked = [u64; 4];
+pub const NO_REQUEST: Asked = [0; 4];
 
 /// A call on an opened store.
 #[derive(Clone, Debug, PartialEq)]
 pub struct Call {
     pub what: What,
+    /// Of the variable; none in a commit or a whole image.
     pub key: Vec<u8>,
     /// 0 for Common, any other number for System.
     pub typ: u32,
@@ -24,6 +28,10 @@ pub enum What {
     Lookup,
     /// With the room for the value.
     Value(usize),
+    /// With the room for the output.
+    Commit(usize),
+    /// The same.
+    Whole(usize),
 }
 
 /// What a call answers.
@@ -35,6 +43,10 @@ pub enum Answer {
     Lookup(u32, [u64; 3]),
     /// Of a value: its length, and the room after the call.
     Value(usize, Vec<u8>),
+    /// Of a commit: the number, the requests, the output after the call.
+    Commit(u32, Asked, Vec<u8>),
+    /// Of a whole image: the number, the length, the output after the call.
+    Whole(u32, u64, Vec<u8>),
 }
 
 impl Call {
@@ -43,32 +55,90 @@ impl Call {
         Call { what, key, typ }
     }
 
+    pub fn commit(room: usize) -> Self {
+        Call::new(What::Commit(room), b"", 0)
+    }
+
+    pub fn whole(room: usize) -> Self {
+        Call::new(What::Whole(room), b"", 0)
+    }
+
     /// Neither a value nor anything else was found, or the call was refused.
     pub fn refused(&self, number: u32) -> Answer {
         match self.what {
             What::Insert(_) | What::Remove => Answer::Number(number),
             What::Lookup => Answer::Lookup(number, [0; 3]),
             What::Value(room) => Answer::Value(0, vec![ROOM; room]),
+            What::Commit(room) => Answer::Commit(number, NO_REQUEST, vec![ROOM; room]),
+            What::Whole(room) => Answer::Whole(number, 0, vec![ROOM; room]),
         }
     }
 
     /// A value was found, at a place of the work area.
     pub fn found(&self, place: usize, value: &[u8]) -> Answer {
         match self.what {
-            What::Value(room) => {
-                let mut out = vec![ROOM; room];
-                let reach = room.min(value.len());
-                out[..reach].copy_from_slice(&value[..reach]);
-                Answer::Value(value.len(), out)
-            }
+            What::Value(room) => Answer::Value(value.len(), lent(room, value)),
             _ => Answer::Lookup(0, [1, place as u64, value.len() as u64]),
         }
     }
 }
 
+impl Answer {
+    /// Of an accepted commit or one that is refused with 12, which has moved the bank too.
+    pub fn requests(&self) -> Option<Asked> {
+        match self {
+            Answer::Commit(0 | 12, requests, _) => Some(*requests),
+            _ => None,
+        }
+    }
+
+    /// State or work area may be new after it.
+    pub fn changes(&self) -> bool {
+        *self == Answer::Number(0) || self.requests().is_some()
+    }
+
+    /// The bytes to be written, of an accepted commit.
+    pub fn written(&self) -> Option<(usize, &[u8])> {
+        match self {
+            Answer::Commit(0, [_, _, offset, length], out) => {
+                Some((*offset as usize, out.get(..*length as usize)?))
+            }
+            _ => None,
+        }
+    }
+
+    fn room(&self) -> &[u8] {
+        match self {
+            Answer::Value(_, out) | Answer::Commit(_, _, out) | Answer::Whole(_, _, out) => out,
+            _ => &[],
+        }
+    }
+}
+
+/// A room with these bytes at its front, as far as it reaches.
+pub fn lent(room: usize, bytes: &[u8]) -> Vec<u8> {
+    let mut out = vec![ROOM; room];
+    let reach = room.min(bytes.len());
+    out[..reach].copy_from_slice(&bytes[..reach]);
+    out
+}
+
+/// Where two answers' rooms differ, for those of which the front is the same.
+pub fn parting(said: &Answer, has: &Answer) -> String {
+    let (said, has) = (said.room(), has.room());
+    let Some(at) = said.iter().zip(has).position(|(a, b)| a != b) else {
+        return String::new();
+    };
+    let shown = |bytes: &[u8]| hex(&bytes[at..bytes.len().min(at + PRINTED)]);
+    let (said, has) = (shown(said), shown(has));
+    format!("\n  from {at} on, 01: {said}, port: {has}")
+}
+
 impl Display for Call {
     fn fmt(&self, f: &mut Formatter) -> fmt::Result {
         match &self.what {
+            What::Commit(room) => return write!(f, "commit with room for {room}"),
+            What::Whole(room) => return write!(f, "whole image with room for {room}"),
             What::Insert(value) => write!(f, "insert of {}", hex(value))?,
             What::Remove => write!(f, "remove")?,
             What::Lookup => write!(f, "lookup")?,
@@ -86,6 +156,13 @@ impl Display for Answer {
                 write!(f, "{number}, found {found}, place {place}, length {length}")
             }
             Answer::Value(length, out) => write!(f, "length {length}, room {}", hex(out)),
+            Answer::Commit(number, [asked, at, offset, length], out) => {
+                write!(f, "{number}, erase {asked} at {at}, write at {offset}, ")?;
+                write!(f, "length {length}, output {}", hex(out))
+            }
+            Answer::Whole(number, length, out) => {
+                write!(f, "{number}, length {length}, output {}", hex(out))
+            }
         }
     }
 }
@@ -118,6 +195,23 @@ mod tests {
         let lookup = Call::new(What::Lookup, b"k", 0);
         assert_eq!(lookup.found(7, b"abc"), Answer::Lookup(0, [1, 7, 3]));
         assert_eq!(lookup.refused(7), Answer::Lookup(7, [0; 3]));
+    }
+
+    #[test]
+    fn an_output_is_told_where_it_differs() {
+        let commit = Call::commit(70_000);
+        let mut has = Answer::Commit(0, [0, 0, 0, 2], lent(70_000, b"ab"));
+        let said = has.clone();
+        assert_eq!(said.written(), Some((0, &b"ab"[..])));
+        assert_eq!(parting(&said, &has), "");
+        if let Answer::Commit(_, _, out) = &mut has {
+            out[69_999] = 7;
+        }
+        let text = parting(&said, &has);
+        assert!(text.contains("from 69999 on, 01: a5, port: 07"), "{text}");
+        let refused = commit.refused(5);
+        assert_eq!((refused.written(), refused.requests()), (None, None));
+        assert!(!refused.changes() && said.changes());
     }
 
     #[test]

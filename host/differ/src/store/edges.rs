@@ -43,7 +43,9 @@ impl Edge {
         }
         let lookup = Call::new(What::Lookup, b"rate", 1);
         let insert = Call::new(What::Insert(b"x".to_vec()), b"rate", 1);
-        let mut run = Run::new(image, vec![lookup.clone(), insert, lookup]);
+        let commit = Call::commit(BANK);
+        let whole = Call::whole(self.banks * BANK);
+        let mut run = Run::new(image, vec![lookup.clone(), insert, lookup, commit, whole]);
         run.spare = self.spare;
         run
     }

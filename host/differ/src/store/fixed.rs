@@ -4,9 +4,10 @@ use image::{put_number, Header, Record, BANK, COMMON_GUID, HEADER, RECORD};
 
 use super::book::PART;
 use super::call::{Call, What};
+use super::fixed_commits;
 use super::run::Run;
 
-type Named = (&'static str, Run);
+pub type Named = (&'static str, Run);
 
 /// Room for every value of the list.
 const ROOM: usize = PART;
@@ -17,6 +18,7 @@ pub fn list() -> Vec<Named> {
     out.extend(edits());
     out.extend(keys());
     out.extend(kills());
+    out.extend(fixed_commits::list());
     out
 }
 
@@ -175,7 +177,7 @@ fn kills() -> Vec<Named> {
 }
 
 /// A bank of this generation with one live system record, `rate`: 74 bytes.
-fn held(generation: u32) -> Vec<u8> {
+pub fn held(generation: u32) -> Vec<u8> {
     let header = Header {
         generation,
         ..Header::default()
@@ -184,25 +186,25 @@ fn held(generation: u32) -> Vec<u8> {
 }
 
 /// The same of generation 1 and this size, with bytes behind the record.
-fn ending(size: usize, then: &[u8]) -> Vec<u8> {
+pub fn ending(size: usize, then: &[u8]) -> Vec<u8> {
     let mut bank = held(1);
     put_number(&mut bank, 4, size as u32);
     bank[74..74 + then.len()].copy_from_slice(then);
     bank
 }
 
-fn put(key: &[u8], value: &[u8], typ: u32) -> Call {
+pub fn put(key: &[u8], value: &[u8], typ: u32) -> Call {
     Call::new(What::Insert(value.to_vec()), key, typ)
 }
 
-fn remove(key: &[u8], typ: u32) -> Call {
+pub fn remove(key: &[u8], typ: u32) -> Call {
     Call::new(What::Remove, key, typ)
 }
 
-fn get(key: &[u8], typ: u32) -> Call {
+pub fn get(key: &[u8], typ: u32) -> Call {
     Call::new(What::Lookup, key, typ)
 }
 
-fn value(key: &[u8], typ: u32) -> Call {
+pub fn value(key: &[u8], typ: u32) -> Call {
     Call::new(What::Value(ROOM), key, typ)
 }

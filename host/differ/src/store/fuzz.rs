@@ -2,7 +2,7 @@
 //! that they are. Nothing else changes, and nothing beside the buffers.
 
 use super::book::{Book, PART};
-use super::call::{hex, Answer, Call};
+use super::call::{hex, parting, Call};
 use super::least::smallest;
 use super::lent::{Calls, Lent, Standing};
 use super::same::{same_state, same_work};
@@ -82,7 +82,7 @@ pub fn compare(case: &Case, port: &dyn Calls, standing: Standing) -> Result<bool
     let said = match book {
         Some(mut book) => {
             let said = book.answer(&case.call);
-            if said == Answer::Number(0) {
+            if said.changes() {
                 state[..STATE].copy_from_slice(&book.state().bytes());
                 let at = book.active * PART;
                 work[at..at + PART].copy_from_slice(&book.slots[book.active].part());
@@ -94,7 +94,8 @@ pub fn compare(case: &Case, port: &dyn Calls, standing: Standing) -> Result<bool
     let mut lent = Lent::new(port, standing, &case.state, &case.work);
     let has = lent.ask(&case.call)?;
     if has != said {
-        return Err(format!("\n  01:   {said}\n  port: {has}"));
+        let parting = parting(&said, &has);
+        return Err(format!("\n  01:   {said}\n  port: {has}{parting}"));
     }
     same_state(&state, lent.state.bytes(), "port")?;
     same_work(&work, lent.work.bytes(), "port")?;

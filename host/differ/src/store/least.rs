@@ -72,7 +72,7 @@ impl<F: Fn(&Case) -> bool> Search<F> {
         let mut less = self.best.clone();
         match &mut less.call.what {
             What::Insert(value) => value.clear(),
-            What::Value(room) => *room = 0,
+            What::Value(room) | What::Commit(room) | What::Whole(room) => *room = 0,
             _ => {}
         }
         self.keep(Some(less));

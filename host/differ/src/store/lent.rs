@@ -1,13 +1,13 @@
 //! The port's calls on lent buffers, and what they are to leave alone.
 
-use super::call::{Answer, Call, What, ROOM};
+use super::call::{Answer, Asked, Call, What, ROOM};
 
 /// Bytes before and after a buffer that nobody lent.
 const GUARD: usize = 64;
 /// What guards hold.
 const BEFORE: u8 = 0xA5;
 
-/// The five calls; the tests plant faults here.
+/// The seven calls; the tests plant faults here.
 pub trait Calls {
     fn open(&self, image: &[u8], state: &mut [u8], work: &mut [u8]) -> u32 {
         port::lent::open(image, state, work)
@@ -27,6 +27,14 @@ pub trait Calls {
 
     fn value(&self, state: &[u8], work: &[u8], key: &[u8], typ: u32, out: &mut [u8]) -> usize {
         port::lent::value(state, work, key, typ, out)
+    }
+
+    fn commit(&self, state: &mut [u8], work: &mut [u8], out: &mut [u8], asked: &mut Asked) -> u32 {
+        port::lent::commit(state, work, out, asked)
+    }
+
+    fn whole(&self, state: &[u8], work: &[u8], out: &mut [u8], length: &mut [u64; 1]) -> u32 {
+        port::lent::whole_image(state, work, out, length)
     }
 }
 
@@ -119,6 +127,8 @@ impl<'a> Lent<'a> {
             }
             What::Lookup => self.lookup(call, &key)?,
             What::Value(room) => self.value(call, &key, *room)?,
+            What::Commit(room) => self.commit(*room)?,
+            What::Whole(room) => self.whole(*room)?,
         };
         self.untouched(&[(&key, &call.key)])?;
         Ok(answer)
@@ -134,15 +144,11 @@ impl<'a> Lent<'a> {
     }
 
     fn lookup(&mut self, call: &Call, key: &Buffer) -> Result<Answer, String> {
-        let other = [u64::MAX; 3];
-        let mut out = [other; 3];
         let (state, work) = (self.state.bytes(), self.work.bytes());
         let (key, typ) = (key.bytes(), call.typ);
-        let number = self.calls.lookup(state, work, key, typ, &mut out[1]);
-        if (out[0], out[2]) != (other, other) {
-            return Err("it wrote beside its answer".to_string());
-        }
-        Ok(Answer::Lookup(number, out[1]))
+        let lookup = |out: &mut _| self.calls.lookup(state, work, key, typ, out);
+        let (number, found) = with_numbers(lookup)?;
+        Ok(Answer::Lookup(number, found))
     }
 
     fn value(&mut self, call: &Call, key: &Buffer, room: usize) -> Result<Answer, String> {
@@ -152,6 +158,24 @@ impl<'a> Lent<'a> {
         let length = self.calls.value(state, work, key, typ, out.bytes_mut());
         self.untouched(&[(&out, out.bytes())])?;
         Ok(Answer::Value(length, out.bytes().to_vec()))
+    }
+
+    fn commit(&mut self, room: usize) -> Result<Answer, String> {
+        let mut out = Buffer::new(&vec![ROOM; room], self.standing);
+        let (state, work) = (self.state.bytes_mut(), self.work.bytes_mut());
+        let commit = |requests: &mut _| self.calls.commit(state, work, out.bytes_mut(), requests);
+        let (number, requests) = with_numbers(commit)?;
+        self.untouched(&[(&out, out.bytes())])?;
+        Ok(Answer::Commit(number, requests, out.bytes().to_vec()))
+    }
+
+    fn whole(&mut self, room: usize) -> Result<Answer, String> {
+        let mut out = Buffer::new(&vec![ROOM; room], self.standing);
+        let (state, work) = (self.state.bytes(), self.work.bytes());
+        let whole = |length: &mut _| self.calls.whole(state, work, out.bytes_mut(), length);
+        let (number, [length]) = with_numbers(whole)?;
+        self.untouched(&[(&out, out.bytes())])?;
+        Ok(Answer::Whole(number, length, out.bytes().to_vec()))
     }
 
     /// These buffers are as they were, and no guard was written over.
@@ -164,6 +188,19 @@ impl<'a> Lent<'a> {
         }
         Err("it wrote where it was not to".to_string())
     }
+}
+
+/// A call that answers a number and fills an array, with arrays on both sides of it.
+fn with_numbers<const N: usize>(
+    call: impl FnOnce(&mut [u64; N]) -> u32,
+) -> Result<(u32, [u64; N]), String> {
+    let other = [u64::MAX; N];
+    let mut out = [other; 3];
+    let number = call(&mut out[1]);
+    if (out[0], out[2]) != (other, other) {
+        return Err("it wrote beside its answer".to_string());
+    }
+    Ok((number, out[1]))
 }
 
 #[cfg(test)]

@@ -82,7 +82,7 @@ fn bank(rng: &mut Rng, generation: u32) -> Vec<u8> {
 }
 
 /// A bank of few records with few keys, or with `odd` of any size and its records' end anyhow.
-fn valid(rng: &mut Rng, generation: u32, odd: bool) -> Made {
+pub fn valid(rng: &mut Rng, generation: u32, odd: bool) -> Made {
     let mut header = Header {
         generation,
         ..make::header(rng)
@@ -108,7 +108,7 @@ fn valid(rng: &mut Rng, generation: u32, odd: bool) -> Made {
 }
 
 /// Reserved and closing bytes are anything, and 255 often.
-fn record(rng: &mut Rng) -> Record {
+pub fn record(rng: &mut Rng) -> Record {
     let value = rng.pick(&[0, 1, 8, 8, 60, 300]);
     let made = make::record(rng, 0, value);
     Record {
@@ -137,21 +137,36 @@ pub fn calls(rng: &mut Rng, mut book: Option<Book>) -> Vec<Call> {
 pub fn call(rng: &mut Rng, book: Option<&mut Book>) -> Call {
     let any = rng.next() as u32;
     let typ = rng.pick(&[0, 0, 0, 1, 1, 1, 2, 256, u32::MAX, any]);
-    let (key, room) = match book.and_then(|book| book.active_bank()) {
-        Some(bank) => (known_key(rng, &bank.records), PART - bank.total()),
-        None => (some_key(rng), 0),
+    let whole = book.as_ref().map_or(1, |book| book.slots.len()) * BANK;
+    let (key, rooms) = match book.and_then(|book| book.active_bank()) {
+        Some(bank) => (
+            known_key(rng, &bank.records),
+            [PART, bank.usable].map(|end| end.saturating_sub(bank.total())),
+        ),
+        None => (some_key(rng), [0, 0]),
     };
-    let what = match rng.below(20) {
-        0..=8 => What::Insert(value(rng, room, key.len())),
+    let what = match rng.below(24) {
+        0..=8 => What::Insert(value(rng, rooms, key.len())),
         9..=11 => What::Remove,
         12..=16 => What::Lookup,
-        _ => What::Value(rng.pick(&[0, 1, 8, 100, 1000])),
+        17..=19 => What::Value(rng.pick(&[0, 1, 8, 100, 1000])),
+        20..=22 => return Call::commit(output(rng, BANK)),
+        _ => return Call::whole(output(rng, whole)),
     };
     Call { what, key, typ }
 }
 
+/// Room for an output, now and then too little or more than is needed.
+pub fn output(rng: &mut Rng, need: usize) -> usize {
+    match rng.below(24) {
+        0 => rng.pick(&[0, 1, need / 2, need - 1]),
+        1 => need + rng.pick(&[1, 100, BANK]),
+        _ => need,
+    }
+}
+
 /// A key of the bank half of the time.
-fn known_key(rng: &mut Rng, records: &[Record]) -> Vec<u8> {
+pub fn known_key(rng: &mut Rng, records: &[Record]) -> Vec<u8> {
     if records.is_empty() || rng.below(2) == 0 {
         return some_key(rng);
     }
@@ -167,9 +182,9 @@ fn some_key(rng: &mut Rng) -> Vec<u8> {
     }
 }
 
-/// A value; one in eight leaves 0 to 2 bytes free, or is that much too long.
-fn value(rng: &mut Rng, room: usize, key: usize) -> Vec<u8> {
-    let exact = room as isize - (RECORD + key + 1) as isize;
+/// A value; one in eight leaves 0 to 2 bytes of one of the rooms free, or is that much too long.
+fn value(rng: &mut Rng, rooms: [usize; 2], key: usize) -> Vec<u8> {
+    let exact = rng.pick(&rooms) as isize - (RECORD + key + 1) as isize;
     let exact = (exact + rng.pick(&[-2, -1, 0, 1, 2])).max(0) as usize;
     let any = rng.below(20_000);
     let len = match rng.below(32) {
@@ -206,7 +221,8 @@ mod tests {
         }
         let reached = |counts: &[u64], at: &[usize]| at.iter().all(|&i| counts[i] > 0);
         assert!(reached(&all.runs, &[0, 3, 4, 6]), "{all}");
-        assert!(reached(&all.numbers, &[0, 6, 7, 8]), "{all}");
-        assert!(reached(&all.calls, &[0, 1, 2, 3]) && all.found > 0, "{all}");
+        assert!(reached(&all.numbers, &[0, 5, 6, 7, 8, 10, 12]), "{all}");
+        assert!(reached(&all.calls, &[0, 1, 2, 3, 4, 5]), "{all}");
+        assert!(all.found > 0, "{all}");
     }
 }

@@ -7,15 +7,17 @@ use image::BANK;
 
 use super::call::{Answer, Call, What};
 use super::fixed;
-use super::run::Run;
+use super::flash::erase;
+use super::run::{within, Run};
 use super::rust::Rust;
 
 const HEAD: &str = "\
 # Runs of the store with the answers of asahi-nvram's v3.rs, built unchanged (host/oracle).
 # Made by `differ --write-replay FILE` from the list in host/differ/src/store/fixed.rs, with no
-# random number in it; `make test` makes it again and compares. Only calls that the Rust accepts
-# are in it: it has no work area, no state and no refusal but that of an image. State and work
-# area are those that its records amount to (header, records as written, 0xFF behind them).
+# random number in it; `make test` makes it again and compares. Only calls that the Rust answers
+# are in it: it has no work area, no state and no refusals but those of an image and of a commit
+# (9, 10, 12). State and work area are those that its records amount to (header, records as
+# written, 0xFF behind them), the tally is the count of its erase requests.
 #
 # A line is a letter and fields, one space between. Numbers are decimal; bytes and checksums
 # (CRC-32, eight digits) are hexadecimal, `-` for no bytes. A line with # is for the reader.
@@ -27,8 +29,11 @@ const HEAD: &str = "\
 #   D TYPE KEY NUMBER                   remove
 #   L TYPE KEY NUMBER FOUND PLACE LENGTH
 #   V TYPE KEY LENGTH CRC               the value itself
-#   S N ACTIVE TALLY   the state after an opening or an edit, and for each bank KIND (0 Empty,
-#                      1 Invalid, 2 Valid), TOTAL, USABLE
+#   C NUMBER ERASE AT OFFSET LENGTH CRC commit: ERASE is 1 where the bank at AT is to be erased,
+#                      else both are 0; the checksum is of the bytes to write
+#   A NUMBER LENGTH CRC                 the whole image, and the checksum of its bytes
+#   S N ACTIVE TALLY   the state after an opening, an edit or a commit, and for each bank KIND
+#                      (0 Empty, 1 Invalid, 2 Valid), TOTAL, USABLE
 #   W CRC              the work area after it, N times 131,072 bytes
 ";
 
@@ -72,24 +77,32 @@ fn answers(run: &Run) -> Result<String, String> {
         let number = if run.image.len() < BANK { 1 } else { 4 };
         return Ok(format!("O {number}\nS 0 0 0\n"));
     };
-    let mut out = format!("O 0\n{}", left(&rust));
+    let mut tally = 0;
+    let mut out = format!("O 0\n{}", left(&rust, tally));
+    let mut book = run.opened().map_err(|number| format!("by 01 {number}"))?;
     for call in &run.calls {
+        let said = book.answer(call);
+        if !within(&mut book, &said) {
+            return Err(format!("{call}: not in 01's domain"));
+        }
         let answer = rust.answer(call)?;
-        out.push_str(&line(call, &answer, &mut rust)?);
+        tally += u32::from(erase(&answer).is_some());
+        out.push_str(&line(call, &answer)?);
+        if matches!(answer, Answer::Number(_) | Answer::Commit(..)) {
+            out.push_str(&left(&rust, tally));
+        }
     }
     Ok(out)
 }
 
-fn line(call: &Call, answer: &Answer, rust: &mut Rust) -> Result<String, String> {
+fn line(call: &Call, answer: &Answer) -> Result<String, String> {
     let named = format!("{} {}", call.typ, bytes(&call.key));
     Ok(match (&call.what, answer) {
         (What::Insert(value), Answer::Number(number)) => {
             let value = repeated(value);
-            format!("I {named} {value} {number}\n{}", left(rust))
+            format!("I {named} {value} {number}\n")
         }
-        (What::Remove, Answer::Number(number)) => {
-            format!("D {named} {number}\n{}", left(rust))
-        }
+        (What::Remove, Answer::Number(number)) => format!("D {named} {number}\n"),
         (What::Lookup, Answer::Lookup(number, [found, place, length])) => {
             format!("L {named} {number} {found} {place} {length}\n")
         }
@@ -97,13 +110,21 @@ fn line(call: &Call, answer: &Answer, rust: &mut Rust) -> Result<String, String>
             let crc = crc32fast::hash(&value[..*length]);
             format!("V {named} {length} {crc:08X}\n")
         }
+        (_, Answer::Commit(number, [asked, at, offset, length], out)) => {
+            let crc = crc32fast::hash(&out[..*length as usize]);
+            format!("C {number} {asked} {at} {offset} {length} {crc:08X}\n")
+        }
+        (_, Answer::Whole(number, length, out)) => {
+            let crc = crc32fast::hash(&out[..*length as usize]);
+            format!("A {number} {length} {crc:08X}\n")
+        }
         _ => return Err(format!("{call}: {answer}")),
     })
 }
 
-/// State and work area after an opening or an edit.
-fn left(rust: &Rust) -> String {
-    let state = rust.state(0);
+/// State and work area after an opening, an edit or a commit.
+fn left(rust: &Rust, tally: u32) -> String {
+    let state = rust.state(tally);
     let mut out = format!("S {} {} {}", state.n, state.active, state.tally);
     for entry in &state.entries[..state.n as usize] {
         let _ = write!(out, " {} {} {}", entry.kind, entry.total, entry.usable);

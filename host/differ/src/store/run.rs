@@ -4,7 +4,8 @@
 use image::BANK;
 
 use super::book::{Book, PART};
-use super::call::{Answer, Call, What};
+use super::call::{parting, Answer, Call};
+use super::demand::Watch;
 use super::lent::{Calls, Lent, Standing};
 use super::rust::Rust;
 use super::same::{same_state, same_work};
@@ -54,8 +55,27 @@ impl Run {
     /// memory checker is to watch the port alone; it takes fault at the Rust's `vec!`.
     fn comparable(&self, opened: &Result<Book, u32>) -> bool {
         let asked = matches!(opened, Ok(_) | Err(1 | 4)) && self.standing != Standing::Alone;
-        let mut banks = self.image.chunks_exact(BANK);
-        asked && banks.all(|b| model::read(b).outside.is_none())
+        asked && inside(&self.image)
+    }
+}
+
+/// No bank of it is outside the domain.
+pub fn inside(image: &[u8]) -> bool {
+    let mut banks = image.chunks_exact(BANK);
+    banks.all(|b| model::read(b).outside.is_none())
+}
+
+/// The Rust may be asked for what 01 answers this to. What it does instead, where it may not, is
+/// in docs/DIFFERENCES.md.
+pub fn within(book: &mut Book, said: &Answer) -> bool {
+    let bank = book.active_bank();
+    match said {
+        Answer::Number(number) | Answer::Lookup(number, _) | Answer::Whole(number, ..) => {
+            *number == 0
+        }
+        Answer::Value(..) => bank.is_some(),
+        Answer::Commit(12, ..) => bank.is_some_and(|b| b.header.size as usize == BANK),
+        Answer::Commit(number, ..) => matches!(number, 0 | 9 | 10),
     }
 }
 
@@ -89,6 +109,7 @@ struct Sides<'a> {
     state: Vec<u8>,
     work: Vec<u8>,
     rust: Option<Rust<'a>>,
+    watch: Watch,
     tally: Tally,
 }
 
@@ -105,14 +126,13 @@ impl<'a> Sides<'a> {
             Err(6) => {}
             Err(_) => state[..STATE].fill(0),
         }
-        let tally = Tally::opened(&book);
-        let rust = None;
         Sides {
+            watch: Watch::new(&run.image, book.as_ref().map_or(0, |b| b.slots.len())),
+            tally: Tally::opened(&book),
+            rust: None,
             book,
             state,
             work,
-            rust,
-            tally,
         }
     }
 
@@ -132,39 +152,62 @@ impl<'a> Sides<'a> {
     }
 
     fn call(&mut self, lent: &mut Lent, call: &Call) -> Result<(), String> {
-        let (said, asked) = match &mut self.book {
-            Ok(book) => (book.answer(call), book.active_bank().is_some()),
-            Err(_) => (call.refused(6), false),
+        let (said, asked, within) = match &mut self.book {
+            Ok(book) => {
+                let generation = book.generation();
+                let said = book.answer(call);
+                self.tally.moves += u64::from(book.generation() != generation);
+                let within = within(book, &said);
+                (said, book.active_bank().is_some(), within)
+            }
+            Err(_) => (call.refused(6), false, false),
         };
-        let full = said == Answer::Number(8);
         self.tally.called(call, &said, asked);
-        self.keep(call, &said);
+        self.keep(&said);
         let rust = match &mut self.rust {
-            Some(rust) if asked && !full => Some(rust.answer(call)),
+            Some(rust) if within => Some(rust.answer(call)),
             _ => None,
         };
         let port = lent.ask(call);
         let agrees = |side: &Result<Answer, String>| side.as_ref() == Ok(&said);
         if !agrees(&port) || !rust.as_ref().map_or(true, agrees) {
+            let parting = port.as_ref().map_or(String::new(), |p| parting(&said, p));
             let rust = rust.map_or("not asked".to_string(), text);
             let port = text(port);
-            return Err(format!("\n  Rust: {rust}\n  01:   {said}\n  port: {port}"));
+            return Err(format!(
+                "\n  Rust: {rust}\n  01:   {said}\n  port: {port}{parting}"
+            ));
         }
         self.same(lent)?;
-        match rust {
-            Some(_) => self.rust_same(call),
-            None => Ok(()),
+        if rust.is_some() {
+            self.rust_same(&said)?;
+        } else if said.changes() {
+            // What the Rust was not asked has changed the book.
+            self.rust = None;
         }
+        self.watched(lent, call, port?, rust.transpose()?)
     }
 
-    /// After an accepted edit the active bank's part and entry are new.
-    fn keep(&mut self, call: &Call, said: &Answer) {
-        if let (Ok(book), Answer::Number(0)) = (&self.book, said) {
+    fn watched(
+        &mut self,
+        lent: &mut Lent,
+        call: &Call,
+        port: Answer,
+        rust: Option<Answer>,
+    ) -> Result<(), String> {
+        let Ok(book) = &mut self.book else {
+            return Ok(());
+        };
+        let (watch, tally) = (&mut self.watch, &mut self.tally);
+        watch.called(call, &port, rust.as_ref(), (book, lent), tally)
+    }
+
+    /// After an accepted edit or a move the active bank's part and entry are new.
+    fn keep(&mut self, said: &Answer) {
+        if let (Ok(book), true) = (&self.book, said.changes()) {
             let at = book.active * PART;
             self.work[at..at + PART].copy_from_slice(&book.slots[book.active].part());
-            if matches!(call.what, What::Insert(_)) {
-                self.state[..STATE].copy_from_slice(&book.state().bytes());
-            }
+            self.state[..STATE].copy_from_slice(&book.state().bytes());
         }
     }
 
@@ -174,13 +217,13 @@ impl<'a> Sides<'a> {
         same_work(&self.work, lent.work.bytes(), "port")
     }
 
-    /// The Rust's active bank after an edit, by its records.
-    fn rust_same(&mut self, call: &Call) -> Result<(), String> {
+    /// The Rust's active bank after an edit or a commit, by its records.
+    fn rust_same(&mut self, said: &Answer) -> Result<(), String> {
         let (Some(rust), Ok(book)) = (&mut self.rust, &self.book) else {
             return Ok(());
         };
         self.tally.rust_calls += 1;
-        if matches!(call.what, What::Lookup | What::Value(_)) {
+        if !matches!(said, Answer::Number(_) | Answer::Commit(..)) {
             return Ok(());
         }
         let at = book.active * PART;

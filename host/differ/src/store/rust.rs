@@ -3,11 +3,12 @@
 use std::borrow::Cow;
 use std::panic::{catch_unwind, AssertUnwindSafe};
 
-use image::{number, HEADER, RECORD};
+use image::{number, BANK, COMMON_GUID, HEADER, RECORD, SYSTEM_GUID};
 use oracle::{v3, Nvram, Partition, VarType};
 
-use super::book::PART;
-use super::call::{Answer, Call, What};
+use super::book::{Book, LIVE, PART};
+use super::call::{lent, Answer, Call, What};
+use super::requests::Requests;
 use super::state::{Entry, State, VALID};
 use super::told::Told;
 
@@ -28,9 +29,39 @@ impl<'a> Rust<'a> {
         Ok(Some(Rust { store, told }))
     }
 
-    /// What an accepted call answers. The active slot is to be Valid.
+    /// The opened flash, of which 01 says what the slots are and the Rust which is active. It is
+    /// told without its Debug, which takes long.
+    pub fn reopen(flash: &'a [u8], said: &Book) -> Result<Self, String> {
+        let parsed = guarded(|| v3::Nvram::parse(flash).ok())?;
+        let mut store = parsed.ok_or("it does not reopen the flash")?;
+        let active: *const _ = peek::active_bank(&mut store);
+        let banks = peek::valid_banks(&store);
+        let which = banks.iter().position(|bank| std::ptr::eq(*bank, active));
+        let count = banks.len();
+        let entries = &said.state().entries[..said.slots.len()];
+        let valid = entries.iter().enumerate().filter(|(_, e)| e.kind == VALID);
+        let valid: Vec<_> = valid.map(|(i, e)| (i, e.usable)).collect();
+        let active = which.and_then(|which| valid.get(which));
+        let (active, _) = active.ok_or("its active bank is not among the Valid ones")?;
+        let told = Told {
+            kinds: entries.iter().map(|e| e.kind).collect(),
+            usable: valid.iter().map(|(_, usable)| *usable).collect(),
+            active: *active,
+        };
+        match count == valid.len() {
+            true => Ok(Rust { store, told }),
+            false => Err(format!("{count} banks are Valid in it")),
+        }
+    }
+
+    /// What a call answers that 01's domain has. The active slot is to be Valid, but for a whole
+    /// image; no bank that is to be written is over its size.
     pub fn answer(&mut self, call: &Call) -> Result<Answer, String> {
-        guarded(|| self.ask(call))
+        guarded(|| match call.what {
+            What::Commit(room) => self.commit(room),
+            What::Whole(room) => self.whole(room),
+            _ => Ok(self.ask(call)),
+        })?
     }
 
     fn ask(&mut self, call: &Call) -> Answer {
@@ -42,9 +73,30 @@ impl<'a> Rust<'a> {
         match &call.what {
             What::Insert(value) => bank.insert_variable(&call.key, Cow::Owned(value.clone()), typ),
             What::Remove => bank.remove_variable(&call.key, typ),
-            What::Lookup | What::Value(_) => return self.found(call, typ),
+            _ => return self.found(call, typ),
         }
         Answer::Number(0)
+    }
+
+    fn commit(&mut self, room: usize) -> Result<Answer, String> {
+        let refusal = refusal(peek::active_bank(&mut self.store));
+        let mut requests = Requests::default();
+        let number = match self.store.apply(&mut requests) {
+            Ok(()) => 0,
+            Err(oracle::Error::SectionTooBig) => refusal,
+            Err(other) => return Err(format!("{other:?}")),
+        };
+        let (asked, written) = requests.told()?;
+        let offset = asked[2] as usize;
+        if number == 12 || asked[0] == 1 || number == 0 && offset != self.told.active * BANK {
+            self.told = Told::read(&format!("{:?}", self.store))?;
+        }
+        Ok(Answer::Commit(number, asked, lent(room, &written)))
+    }
+
+    fn whole(&self, room: usize) -> Result<Answer, String> {
+        let bytes = self.store.serialize().map_err(|e| format!("{e:?}"))?;
+        Ok(Answer::Whole(0, bytes.len() as u64, lent(room, &bytes)))
     }
 
     fn found(&mut self, call: &Call, typ: VarType) -> Answer {
@@ -101,7 +153,7 @@ impl<'a> Rust<'a> {
         parts.collect::<Vec<_>>().concat()
     }
 
-    /// Edits change records only.
+    /// Whatever was called since a bank last moved changed records only.
     pub fn kept(&self) -> bool {
         Told::read(&format!("{:?}", self.store)).as_ref() == Ok(&self.told)
     }
@@ -110,6 +162,20 @@ impl<'a> Rust<'a> {
 /// A panic is an answer too.
 fn guarded<T>(call: impl FnOnce() -> T) -> Result<T, String> {
     catch_unwind(AssertUnwindSafe(call)).map_err(|_| "it panics".to_string())
+}
+
+/// Which refusal it is if a commit is refused, for which the Rust has one word.
+fn refusal(bank: &v3::Partition) -> u32 {
+    let over = |guid: &[u8; 16], limit: u32| {
+        let live = bank.values.iter().filter(|v| v.header.state == LIVE);
+        let section = live.filter(|v| v.header.guid == guid);
+        section.map(|v| bytes(v).len()).sum::<usize>() > limit as usize
+    };
+    match &bank.header {
+        header if over(&SYSTEM_GUID, header.system_size) => 9,
+        header if over(&COMMON_GUID, header.common_size) => 10,
+        _ => 12,
+    }
 }
 
 fn part(bank: Option<&v3::Partition>) -> Vec<u8> {

@@ -24,6 +24,8 @@ pub fn smallest(run: &Run, fails: impl Fn(&Run) -> bool) -> Run {
     {
     }
     search.plain_banks();
+    // A smaller size lets values be shorter.
+    while search.plain_calls() {}
     search.best
 }
 
@@ -122,11 +124,11 @@ fn lengths(len: usize) -> impl Iterator<Item = usize> {
     some.filter(move |&shorter| shorter < len)
 }
 
-/// Of the value, or of the room for it.
+/// Of the value, or of the room for it or for an output.
 fn length(call: &Call) -> usize {
     match &call.what {
         What::Insert(value) => value.len(),
-        What::Value(room) => *room,
+        What::Value(room) | What::Commit(room) | What::Whole(room) => *room,
         _ => 0,
     }
 }
@@ -134,7 +136,7 @@ fn length(call: &Call) -> usize {
 fn shorten(call: &mut Call, len: usize) {
     match &mut call.what {
         What::Insert(value) => value.truncate(len),
-        What::Value(room) => *room = len,
+        What::Value(room) | What::Commit(room) | What::Whole(room) => *room = len,
         _ => {}
     }
 }

@@ -2,7 +2,8 @@
 
 use image::{is_erased, BANK, HEADER};
 
-use super::book::{header, record, Bank, Book, Slot, PART};
+use super::book::{Bank, Book, Slot, PART};
+use super::reading::{header, record};
 use super::state::{Entry, State, EMPTY, ENTRIES, INVALID, VALID};
 use crate::partition::written;
 

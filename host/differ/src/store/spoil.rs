@@ -138,9 +138,11 @@ fn in_a_bank(rng: &mut Rng, book: &Book, case: &mut Case) {
 }
 
 fn in_header(rng: &mut Rng, part: &mut [u8]) {
-    match rng.below(3) {
+    match rng.below(4) {
         0 => flip(rng, &mut part[..HEADER]),
         1 => put_number(part, 4, rng.pick(&NUMBERS)),
+        // The generation or a limit, of which every one is sound.
+        2 => put_number(part, rng.pick(&[8, 16, 20]), rng.pick(&NUMBERS)),
         _ => part[rng.pick(&[12, 13, 14, 15])] = rng.pick(&[0, 1, 2, 0xFF]),
     }
 }

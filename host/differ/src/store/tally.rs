@@ -6,20 +6,28 @@ use std::ops::AddAssign;
 use super::book::Book;
 use super::call::{Answer, Call, What};
 
-/// Refusals go up to 8.
-const NUMBERS: usize = 9;
+/// Refusals go up to 13.
+const NUMBERS: usize = 14;
 
 #[derive(Clone, Copy, Debug, Default, PartialEq)]
 pub struct Tally {
     /// By the opening's number.
     pub runs: [u64; NUMBERS],
     pub banks: u64,
-    /// By insert, remove, lookup, value.
-    pub calls: [u64; 4],
+    /// By insert, remove, lookup, value, commit, whole image.
+    pub calls: [u64; 6],
     /// Lookups and values that found something.
     pub found: u64,
     /// By the call's number; a value tells none, and is not counted here.
     pub numbers: [u64; NUMBERS],
+    /// Commits that moved the bank, those refused with 12 too; erase requests; and pairs of them
+    /// that the bound asks something of.
+    pub moves: u64,
+    pub erases: u64,
+    pub bounded: u64,
+    /// Reopenings of the flash by the port, and by the Rust too.
+    pub reopened: u64,
+    pub rust_reopened: u64,
     /// Openings and calls that the Rust answered too.
     pub rust_runs: u64,
     pub rust_calls: u64,
@@ -40,6 +48,8 @@ impl Tally {
             What::Remove => 1,
             What::Lookup => 2,
             What::Value(_) => 3,
+            What::Commit(_) => 4,
+            What::Whole(_) => 5,
         };
         self.calls[what] += 1;
         match *answer {
@@ -49,6 +59,11 @@ impl Tally {
                 self.found += found;
             }
             Answer::Value(length, _) => self.found += u64::from(asked && length > 0),
+            Answer::Commit(number, [erases, ..], _) => {
+                self.numbers[number as usize] += 1;
+                self.erases += erases;
+            }
+            Answer::Whole(number, ..) => self.numbers[number as usize] += 1,
         }
     }
 
@@ -71,6 +86,11 @@ impl AddAssign for Tally {
         add(&mut self.numbers, &more.numbers);
         self.banks += more.banks;
         self.found += more.found;
+        self.moves += more.moves;
+        self.erases += more.erases;
+        self.bounded += more.bounded;
+        self.reopened += more.reopened;
+        self.rust_reopened += more.rust_reopened;
         self.rust_runs += more.rust_runs;
         self.rust_calls += more.rust_calls;
     }
@@ -78,7 +98,7 @@ impl AddAssign for Tally {
 
 impl Display for Tally {
     fn fmt(&self, f: &mut Formatter) -> fmt::Result {
-        let [insert, remove, lookup, value] = self.calls;
+        let [insert, remove, lookup, value, commit, whole] = self.calls;
         write!(f, "{} openings", self.all_runs())?;
         numbers(f, &self.runs)?;
         write!(f, " of {} banks, {} calls", self.banks, self.all_calls())?;
@@ -87,9 +107,14 @@ impl Display for Tally {
             f,
             ": {insert} inserts, {remove} removes, {lookup} lookups, "
         )?;
-        write!(f, "{value} values, {} found; ", self.found)?;
+        write!(f, "{value} values, {} found, ", self.found)?;
+        write!(f, "{commit} commits, {whole} whole images; ")?;
+        write!(f, "{} moves, {} erase requests, ", self.moves, self.erases)?;
+        write!(f, "{} pairs for one bank; ", self.bounded)?;
+        write!(f, "{} reopenings; ", self.reopened)?;
         let (runs, calls) = (self.rust_runs, self.rust_calls);
-        write!(f, "equal to the Rust: {runs} openings, {calls} calls")
+        write!(f, "equal to the Rust: {runs} openings, {calls} calls, ")?;
+        write!(f, "{} reopenings", self.rust_reopened)
     }
 }
 

@@ -8,7 +8,7 @@ use super::fuzz::{self, Case};
 use super::state::{State, ENTRIES, VALID};
 use super::*;
 
-fn judged(port: &dyn Calls, run: &Run) -> Result<Tally, String> {
+pub fn judged(port: &dyn Calls, run: &Run) -> Result<Tally, String> {
     let mut judge = Judge::new(port);
     judge.judge(run).map(|()| judge.tally)
 }
@@ -22,15 +22,15 @@ fn bank(generation: u32, keys: &[&[u8]]) -> Vec<u8> {
     image::bank(&header, &records)
 }
 
-fn lookup(key: &[u8]) -> Call {
+pub fn lookup(key: &[u8]) -> Call {
     Call::new(What::Lookup, key, 1)
 }
 
-fn insert(len: usize) -> Call {
+pub fn insert(len: usize) -> Call {
     Call::new(What::Insert(vec![9; len]), b"", 0)
 }
 
-fn remove(key: &[u8]) -> Call {
+pub fn remove(key: &[u8]) -> Call {
     Call::new(What::Remove, key, 1)
 }
 
@@ -179,7 +179,7 @@ fn a_planted_find_is_found() {
 }
 
 /// A sound case of one bank, with a lookup.
-fn case() -> Case {
+pub fn case() -> Case {
     let book = Book::open(&bank(1, &[b"a"]), PART).unwrap();
     Case {
         state: book.state().bytes().to_vec(),
@@ -207,76 +207,6 @@ fn a_planted_soundness_is_found_by_fuzzing() {
     assert!(message.contains("204 bytes, n 1, active 0, "), "{message}");
     assert!(message.contains("0: kind 2, total 24, "), "{message}");
     assert!(message.contains("0xFF behind the first 16, "), "{message}");
-}
-
-// The inputs of docs/DIFFERENCES.md, 'Store': what the Rust does where it may not be asked.
-
-/// A bank of 0xFF but for signature, size 24, version and generation.
-fn plain(generation: u32) -> Vec<u8> {
-    let mut bank = vec![0xFF; BANK];
-    bank[..8].copy_from_slice(b"3VVN\x18\0\0\0");
-    put_number(&mut bank, 8, generation);
-    bank[14] = 1;
-    bank
-}
-
-fn rust_answers(image: &[u8], call: &Call) -> Result<String, String> {
-    let mut rust = rust::Rust::open(image)?.ok_or("refused")?;
-    rust.answer(call).map(|answer| answer.to_string())
-}
-
-#[test]
-fn the_rust_panics_where_the_active_slot_is_not_valid() {
-    let image = [vec![0xFF; BANK], plain(0)].concat();
-    let panics = Err("it panics".to_string());
-    for call in [lookup(b""), remove(b""), insert(0)] {
-        assert_eq!(rust_answers(&image, &call), panics);
-        let run = Run::new(image.clone(), vec![call.clone()]);
-        assert_eq!(judged(&Port, &run).unwrap().numbers[7], 1);
-    }
-}
-
-#[test]
-fn the_rust_opens_more_than_16_banks() {
-    let mut image = plain(1);
-    image.resize(17 * BANK, 0xFF);
-    let none = "0, found 0, place 0, length 0".to_string();
-    assert_eq!(rust_answers(&image, &lookup(b"")), Ok(none));
-    let tally = judged(&Port, &Run::new(image, Vec::new())).unwrap();
-    assert_eq!((tally.runs[2], tally.rust_runs), (1, 0));
-}
-
-#[test]
-fn the_rust_inserts_past_the_work_area() {
-    let image = plain(1);
-    assert_eq!(rust_answers(&image, &insert(131_012)), Ok("0".to_string()));
-    let tally = |len| judged(&Port, &Run::new(image.clone(), vec![insert(len)])).unwrap();
-    let (over, full) = (tally(131_012), tally(131_011));
-    assert_eq!((over.numbers[8], over.rust_calls), (1, 0));
-    assert_eq!((full.numbers[0], full.rust_calls), (1, 1));
-}
-
-#[test]
-fn what_is_lent_is_checked() {
-    let mut run = Run::new(plain(1), Vec::new());
-    run.spare = -1;
-    assert_eq!(judged(&Port, &run).unwrap().runs[3], 1);
-    let zeros = Case {
-        state: vec![0; 204],
-        ..case()
-    };
-    assert_eq!(
-        fuzz::compare(&zeros, &Port, Standing::Guarded(0)),
-        Ok(false)
-    );
-}
-
-#[test]
-fn the_rust_has_one_word_for_two_refusals() {
-    for (image, number) in [(Vec::new(), 1), (vec![0xFF; BANK], 4)] {
-        let tally = judged(&Port, &Run::new(image, Vec::new())).unwrap();
-        assert_eq!((tally.runs[number], tally.rust_runs), (1, 1));
-    }
 }
 
 #[test]

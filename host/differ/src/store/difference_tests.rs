@@ -1,0 +1,185 @@
+//! The inputs of docs/DIFFERENCES.md, 'Store' and 'Commit and whole image': what the Rust does where
+//! it may not be asked.
+
+use std::env;
+use std::process::Command;
+
+use image::{put_number, BANK};
+
+use super::call::Call;
+use super::fuzz::{self, Case};
+use super::tests::{case, insert, judged, lookup, remove};
+use super::*;
+
+/// A bank of 0xFF but for signature, size 24, version and generation.
+fn plain(generation: u32) -> Vec<u8> {
+    let mut bank = vec![0xFF; BANK];
+    bank[..8].copy_from_slice(b"3VVN\x18\0\0\0");
+    put_number(&mut bank, 8, generation);
+    bank[14] = 1;
+    bank
+}
+
+fn rust_answers(image: &[u8], call: &Call) -> Result<String, String> {
+    let mut rust = rust::Rust::open(image)?.ok_or("refused")?;
+    rust.answer(call).map(|answer| answer.to_string())
+}
+
+#[test]
+fn the_rust_panics_where_the_active_slot_is_not_valid() {
+    let image = [vec![0xFF; BANK], plain(0)].concat();
+    let panics = Err("it panics".to_string());
+    for call in [lookup(b""), remove(b""), insert(0), commit()] {
+        assert_eq!(rust_answers(&image, &call), panics);
+        let run = Run::new(image.clone(), vec![call.clone()]);
+        assert_eq!(judged(&Port, &run).unwrap().numbers[7], 1);
+    }
+    let whole = judged(&Port, &Run::new(image, vec![Call::whole(2 * BANK)]));
+    assert_eq!(whole.unwrap().rust_calls, 1);
+}
+
+#[test]
+fn the_rust_opens_more_than_16_banks() {
+    let mut image = plain(1);
+    image.resize(17 * BANK, 0xFF);
+    let none = "0, found 0, place 0, length 0".to_string();
+    assert_eq!(rust_answers(&image, &lookup(b"")), Ok(none));
+    let tally = judged(&Port, &Run::new(image, Vec::new())).unwrap();
+    assert_eq!((tally.runs[2], tally.rust_runs), (1, 0));
+}
+
+#[test]
+fn the_rust_inserts_past_the_work_area() {
+    let image = plain(1);
+    assert_eq!(rust_answers(&image, &insert(131_012)), Ok("0".to_string()));
+    let tally = |len| judged(&Port, &Run::new(image.clone(), vec![insert(len)])).unwrap();
+    let (over, full) = (tally(131_012), tally(131_011));
+    assert_eq!((over.numbers[8], over.rust_calls), (1, 0));
+    assert_eq!((full.numbers[0], full.rust_calls), (1, 1));
+}
+
+#[test]
+fn what_is_lent_is_checked() {
+    let mut run = Run::new(plain(1), Vec::new());
+    run.spare = -1;
+    assert_eq!(judged(&Port, &run).unwrap().runs[3], 1);
+    let zeros = Case {
+        state: vec![0; 204],
+        ..case()
+    };
+    assert_eq!(
+        fuzz::compare(&zeros, &Port, Standing::Guarded(0)),
+        Ok(false)
+    );
+}
+
+#[test]
+fn the_rust_has_one_word_for_two_refusals() {
+    for (image, number) in [(Vec::new(), 1), (vec![0xFF; BANK], 4)] {
+        let tally = judged(&Port, &Run::new(image, Vec::new())).unwrap();
+        assert_eq!((tally.runs[number], tally.rust_runs), (1, 1));
+    }
+}
+
+fn commit() -> Call {
+    Call::commit(BANK)
+}
+
+/// What the Rust answers to the last of the calls.
+fn rust_says(image: &[u8], calls: &[Call]) -> String {
+    let mut rust = rust::Rust::open(image).unwrap().unwrap();
+    let answers = calls.iter().map(|call| rust.answer(call).unwrap());
+    answers.last().unwrap().to_string()
+}
+
+#[test]
+fn the_rust_moves_past_the_last_generation() {
+    let calls = vec![insert(0), Call::new(call::What::Remove, b"", 0), commit()];
+    let image = plain(u32::MAX);
+    let rust = rust_says(&image, &calls);
+    let written = "0, erase 1 at 0, write at 0, length 24, output 3356564e1800000000000000ffff01";
+    assert!(rust.starts_with(written), "{rust}");
+    let tally = judged(&Port, &Run::new(image, calls)).unwrap();
+    assert_eq!((tally.numbers[11], tally.rust_calls), (1, 2));
+}
+
+#[test]
+fn the_rust_has_one_word_for_three_refusals() {
+    // No system record is allowed, no common one, and none at all after the move.
+    let mut unlimited = plain(1);
+    put_number(&mut unlimited, 4, BANK as u32);
+    let limited = |at: usize| {
+        let mut image = unlimited.clone();
+        put_number(&mut image, at, 0);
+        image
+    };
+    let system = Call::new(call::What::Insert(vec![]), b"", 1);
+    for (image, put, number) in [
+        (limited(16), system, 9),
+        (limited(20), insert(0), 10),
+        (unlimited.clone(), insert(BANK), 12),
+    ] {
+        let tally = judged(&Port, &Run::new(image, vec![put, commit()])).unwrap();
+        assert_eq!((tally.numbers[number], tally.rust_calls), (1, 2));
+    }
+}
+
+#[test]
+fn an_output_that_is_too_short_is_refused() {
+    let calls = vec![Call::commit(BANK - 1), Call::whole(BANK - 1)];
+    let tally = judged(&Port, &Run::new(plain(1), calls)).unwrap();
+    assert_eq!((tally.numbers[5], tally.rust_calls), (2, 0));
+}
+
+/// Set for a process that may not have much memory.
+const LITTLE: &str = "DIFFER_LITTLE_MEMORY";
+
+/// The calls of which the Rust's last never ends padding.
+fn padding(last: Call) -> Vec<Call> {
+    vec![insert(0), last]
+}
+
+/// Runs `test` of this program alone with 1 GB of memory, and answers what it says when it dies.
+fn with_little_memory(test: &str) -> String {
+    let limited = "ulimit -v 1000000 && exec \"$0\" --exact --nocapture \"$1\"";
+    let out = Command::new("sh")
+        .args(["-c", limited])
+        .arg(env::current_exe().unwrap())
+        .arg(format!("store::difference_tests::{test}"))
+        .env(LITTLE, "1")
+        .output()
+        .unwrap();
+    assert!(!out.status.success());
+    String::from_utf8_lossy(&out.stderr).into_owned()
+}
+
+#[test]
+fn a_commit_of_the_rust_never_ends() {
+    if env::var_os(LITTLE).is_some() {
+        rust_says(&plain(1), &padding(commit()));
+    }
+}
+
+#[test]
+fn a_whole_image_of_the_rust_never_ends() {
+    if env::var_os(LITTLE).is_some() {
+        rust_says(&plain(1), &padding(Call::whole(BANK)));
+    }
+}
+
+#[test]
+fn the_rust_pads_until_memory_ends() {
+    for (test, last, number) in [
+        ("a_commit_of_the_rust_never_ends", commit(), 12),
+        (
+            "a_whole_image_of_the_rust_never_ends",
+            Call::whole(BANK),
+            13,
+        ),
+    ] {
+        let said = with_little_memory(test);
+        assert!(said.contains("memory allocation of"), "{said}");
+        let tally = judged(&Port, &Run::new(plain(1), padding(last))).unwrap();
+        assert_eq!((tally.numbers[number], tally.rust_calls), (1, 1));
+    }
+}
