@@ -6,7 +6,7 @@ use std::cell::RefCell;
 use std::hint::black_box;
 use std::io;
 
-use image::{BANK, HEADER};
+use image::{Record, BANK, HEADER};
 use oracle::{v3, Nvram, NvramWriter, Partition};
 
 use crate::lent::VALUE;
@@ -18,9 +18,27 @@ const LEFT: usize = 256;
 /// The ratios have a bar with this many banks.
 const BARRED: usize = 2;
 
-/// Those of the other calls, with room for an insert.
+/// What a winder's bank is full of: every hour's strike count, all but the last one dead.
+fn strikes(room: usize) -> Vec<Record> {
+    let record = |i: u32| Record {
+        state: 0x7C,
+        ..Record::live(b"strikes", &i.to_le_bytes())
+    };
+    let size = record(0).bytes().len();
+    let mut records: Vec<Record> = (0..(room / size) as u32).map(record).collect();
+    records.last_mut().expect("room for a record").state = 0x7F;
+    records
+}
+
+/// Those of the other calls, and banks of strike counts; with room for an insert.
 fn cases() -> Vec<Case> {
     let mut cases = store::cases();
+    cases.push(Case {
+        name: "2 banks, full of strike counts",
+        banks: BARRED,
+        records: strikes(BANK - HEADER - LEFT),
+        most: 1.5,
+    });
     for case in &mut cases {
         let used = |case: &Case| case.records.iter().map(|r| r.bytes().len()).sum::<usize>();
         while used(case) > BANK - HEADER - LEFT {
