@@ -15,22 +15,8 @@ blanks n = replicate n 255
 pub length-blanks : (n : ℕ) → length (blanks n) ≡ n
 length-blanks n = length-replicate n 255
 
-pub blanks-add : (m n : ℕ) → blanks m ++ blanks n ≡ blanks (m + n)
+blanks-add : (m n : ℕ) → blanks m ++ blanks n ≡ blanks (m + n)
 blanks-add m n = replicate-append-replicate m n 255
-
--- 0xFF behind bytes
-
-pub take-ff : (m n : ℕ) → m ≤ n → take m (blanks n) ≡ blanks m
-take-ff m n h =
-    let e : n ≡ m + (n - m) = omega arith in
-    ap (λ (i : ℕ). take m (blanks i)) e ∙ ap (take m) (sym (blanks-add m (n - m)))
-    ∙ take-at (blanks m) (blanks (n - m)) m (length-blanks m)
-
-pub drop-ff : (m n : ℕ) → m ≤ n → drop m (blanks n) ≡ blanks (n - m)
-drop-ff m n h =
-    let e : n ≡ m + (n - m) = omega arith in
-    ap (λ (i : ℕ). drop m (blanks i)) e ∙ ap (drop m) (sym (blanks-add m (n - m)))
-    ∙ drop-at (blanks m) (blanks (n - m)) m (length-blanks m)
 
 -- padded to n, x is padded to m and then to n
 module _ (x : List ℕ) (m n : ℕ) (h : length x ≤ m) (k : m ≤ n) where

@@ -3,7 +3,7 @@ use Prim.Native.Nat.{ℕ, zero, suc, _+_, _*_, _≤_, _<_}
 use mathlib.Core.Path.{_≡_, refl, sym, ap, ap₂, _∙_, subst}
 use mathlib.Core.List.{List, [], _∷_, _++_, append-assoc}
 use mathlib.Core.Bool.{Bool, true, false, _&&_, cond}
-use mathlib.Core.Option.{Option, none, some}
+use mathlib.Core.Option.{none, some}
 use native.Mathlib.Omega.{arith}
 use lib.Dec.{leb}
 use lib.ListN.{length, drop, replicate, length-append, length-drop}
@@ -17,9 +17,8 @@ use Rattle.nvram.specs.declared.state.Kind.{Kind}
 use Rattle.nvram.specs.declared.state.Kind.the-variants.{Empty, Invalid, Valid}
 use Rattle.nvram.specs.declared.state.Entry.{Entry}
 use Rattle.nvram.specs.declared.state.Nvram.{Nvram}
-use Rattle.nvram.specs.Part.{entry}
 use Rattle.nvram.specs.Contract.{noState}
-use Rattle.exports.specs.State.{kindNumber, three, entryBytes, entriesBytes, stateBytes, stored, kindOf, entryAt, entriesAt, stateAt, kindsKnown, readState, loaded, FineEntries, FineState}
+use Rattle.exports.specs.State.{kindNumber, three, entryBytes, entriesBytes, stateBytes, stored, kindOf, entryAt, entriesAt, stateAt, kindsKnown, readState, FineEntries, FineState}
 
 -- lengths
 
@@ -205,16 +204,3 @@ read-fine bs s k e =
       banks-fine = entries-fine 16 (drop 12 bs) (bytes-drop 12 bs k);
     } in
     subst FineState (sym (read-is bs s e .is)) fine
-
--- what the code loads, where there is no state too
-
-free-fine : (n : ℕ) → FineEntries (replicate n (entry Empty 0 0))
-free-fine zero = tt
-free-fine (suc n) = ((omega arith, omega arith), free-fine n)
-
-pub load-fine : (bs : List ℕ) → Bytes bs → FineState (loaded (readState bs) .state)
-load-fine bs k = go (readState bs) refl
-  where
-    go : (o : Option Nvram) → readState bs ≡ o → FineState (loaded o .state)
-    go none e = record { n-fits = omega arith; active-fits = omega arith; tally-fits = omega arith; banks-long = refl; banks-fine = free-fine 16 }
-    go (some s) e = read-fine bs s k e

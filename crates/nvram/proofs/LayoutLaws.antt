@@ -37,10 +37,6 @@ module _ (b : Book) (f : FineBook b) where
   pub length-banks : length (layParts (b .slots)) ≡ b .n * partSize
   length-banks = length-parts (b .slots) (f .slots-fine) ∙ ap (λ (j : ℕ). j * partSize) (f .long)
 
-  pub length-work : (w : List ℕ) → b .n * partSize ≤ length w → length (layWork b w) ≡ length w
-  unfolding layWork
-  length-work w h = simp (length-append, length-banks, length-drop) (omega arith)
-
   pub work-long : (w : List ℕ) → b .n * partSize ≤ length (layWork b w)
   unfolding layWork
   work-long w = simp (length-append, length-banks) (omega arith)

@@ -8,6 +8,7 @@ use mathlib.Core.List.{List, _++_}
 use lib.ListN.{length, getD, set, take, drop}
 use lib.Seq.{getD-set-same, getD-set-other, set-getD, length-take-le}
 use Rattle.crc32.specs.Crc32.{Bytes}
+use Rattle.buffers.proofs.Laws.{take-replicate, drop-replicate}
 use Rattle.bank.specs.Record.{Record}
 use Rattle.bank.specs.Bank.{Bank, Slot, empty, invalid, valid, bankSize, padded, bankBytes}
 use Rattle.bank.specs.Read.{readBank, bankOf}
@@ -15,7 +16,7 @@ use Rattle.bank.specs.Figures.{total, liveTotal}
 use Rattle.bank.specs.WellFormed.{FineRecords, FineBank}
 use Rattle.bank.proofs.LengthLaws.{length-bank}
 use Rattle.bank.proofs.PartitionLaws.{bank-size}
-use Rattle.bank.proofs.PaddedLaws.{blanks, take-ff, drop-ff, padded-more, take-padded, drop-padded}
+use Rattle.bank.proofs.PaddedLaws.{blanks, padded-more, take-padded, drop-padded}
 use Rattle.nvram.specs.Part.{FineSlot}
 use Rattle.nvram.specs.Book.{Book, FineBook, activeSlot, withActive, withRecords}
 use Rattle.nvram.specs.Commit.{moved, nextBank, nextSlot, request, movedBook, output}
@@ -221,9 +222,9 @@ module _ (f : List ℕ) (b : Book) (base : Base f b) where
           let x = output (moved k) in
           let fits-bank = out-small (moved k) v new-fits in
           written-whole f g (b .n) (nextBank b) (moved k) inside long v new-fits (c .bytes) (c .other) (c .long)
-          (ap (λ (y : List ℕ). ands (take (length x) y) x) (c .here) ∙ ap (λ (y : List ℕ). ands y x) (take-ff (length x) bankSize fits-bank)
+          (ap (λ (y : List ℕ). ands (take (length x) y) x) (c .here) ∙ ap (λ (y : List ℕ). ands y x) (take-replicate (length x) bankSize 255 fits-bank)
           ∙ ands-ff x (bytes-output (moved k) (v .header-fine) (v .records-fine)))
-          (ap (drop (length x)) (c .here) ∙ drop-ff (length x) bankSize fits-bank)
+          (ap (drop (length x)) (c .here) ∙ drop-replicate (length x) bankSize 255 fits-bank)
 
       pub move-current : Current (written (nextBank b * bankSize) (output (moved k)) g) (movedBook b k)
       move-current =
