@@ -10,12 +10,6 @@ fn wide16(x: u8) -> u16
     x as u16
 }
 
-fn wide32(x: u8) -> u32
-    ensures { λ r. ⌜ (r ≡ x) × (r < 256) ⌝ }
-{
-    x as u32
-}
-
 pub(crate) fn u16_at(s: &[u8], at: usize) -> u16
     requires { ⌜ at + 2 ≤ length (now s) ⌝ }
     ensures { λ r. ⌜ r ≡ u16At (now (s .entry)) at ⌝ }
@@ -23,18 +17,11 @@ pub(crate) fn u16_at(s: &[u8], at: usize) -> u16
     wide16(s[at]) + 256 * wide16(s[at + 1])
 }
 
-// The number in four bytes.
-pub fn u32_of(a: u8, b: u8, c: u8, d: u8) -> u32
-    ensures { λ r. ⌜ r ≡ a + 256 * b + 65536 * c + 16777216 * d ⌝ }
-{
-    wide32(a) + 256 * wide32(b) + 65536 * wide32(c) + 16777216 * wide32(d)
-}
-
 pub(crate) fn u32_at(s: &[u8], at: usize) -> u32
     requires { ⌜ at + 4 ≤ length (now s) ⌝ }
     ensures { λ r. ⌜ r ≡ u32At (now (s .entry)) at ⌝ }
 {
-    u32_of(s[at], s[at + 1], s[at + 2], s[at + 3])
+    buffers::u32_of(s[at], s[at + 1], s[at + 2], s[at + 3])
 }
 
 // The four bytes of a number.

@@ -1,6 +1,7 @@
-// Operations on byte slices that LLVM makes vector code of: tests by blocks without an early exit inside, fill and copy by plain loops.
+// Bytes: the number in four of them, and operations on slices that LLVM makes vector code of: tests by blocks without an early exit inside,
+// fill and copy by plain loops.
 ghost use mathlib.Core.Path.{_≡_};
-ghost use Prim.Native.Nat.{min};
+ghost use Prim.Native.Nat.{_+_, _*_, _<_, min};
 ghost use lib.ListN.{length, replicate};
 ghost use Rattle.buffers.specs.Bytes.{allFF, allBlank, countFF, eqBytes, onto};
 
@@ -9,6 +10,19 @@ const BLOCK: usize = 512;
 
 // Smaller where the block that has another byte is read again.
 const SHORT: usize = 128;
+
+fn wide(x: u8) -> u32
+    ensures { λ r. ⌜ (r ≡ x) × (r < 256) ⌝ }
+{
+    x as u32
+}
+
+// The number in four bytes, least byte first.
+pub fn u32_of(a: u8, b: u8, c: u8, d: u8) -> u32
+    ensures { λ r. ⌜ r ≡ a + 256 * b + 65536 * c + 16777216 * d ⌝ }
+{
+    wide(a) + 256 * wide(b) + 65536 * wide(c) + 16777216 * wide(d)
+}
 
 // No early exit, or the loop stays a byte at a time.
 fn block_ff(s: &[u8]) -> bool

@@ -1,4 +1,5 @@
 pub mod Linear
+pub mod Shares
 pub mod ByTable
 pub mod Rule
 pub mod Walk

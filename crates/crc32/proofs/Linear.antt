@@ -8,7 +8,7 @@ use lib.Arith.{bin-ind}
 use lib.Dec.{lit≤}
 use lib.ListN.{length}
 use lib.Pow.{pow-pos, split}
-use lib.Bits.{bitXor, bitAnd, differ, and-mask, xor-zero-r, xor-step, xor-comm, xor-self, xor-shr, xor-mod, xor-lt, xor-shifted, shifted-half, shifted-even}
+use lib.Bits.{bitXor, bitAnd, differ, and-mask, xor-zero-r, xor-step, xor-comm, xor-shr, xor-mod, xor-lt, xor-shifted, shifted-half, shifted-even}
 use Rattle.crc32.specs.Crc32.{polyIf, bitStep, bitSteps, byteStep, byteSteps, crc32Of, Bytes}
 
 two : (n : ℕ) → n % 2 < 2
@@ -49,13 +49,6 @@ xor-four a b c d =
     xor-assoc a b (bitXor c d)
     ∙ ap (bitXor a) (sym (xor-assoc b c d) ∙ ap (λ (x : ℕ). bitXor x d) (xor-comm b c) ∙ xor-assoc c b d)
     ∙ sym (xor-assoc a c (bitXor b d))
-
-pub xor-cancel : (a b r : ℕ) → bitXor b a ≡ bitXor a r → b ≡ r
-xor-cancel a b r e =
-    sym (xor-zero-r b) ∙ ap (bitXor b) (sym (xor-self a)) ∙ sym (xor-assoc b a a) ∙ ap (λ (x : ℕ). bitXor x a) e
-    ∙ xor-comm (bitXor a r) a
-    ∙ sym (xor-assoc a a r)
-    ∙ ap (λ (x : ℕ). bitXor x r) (xor-self a)
 
 poly-xor : (x y : ℕ) → x < 2 → y < 2 → polyIf (bitXor x y) ≡ bitXor (polyIf x) (polyIf y)
 unfolding polyIf

@@ -1,13 +1,16 @@
 -- The table forms from a place in a list: one byte or block more, and none left.
 use mathlib.Core.Path.{_≡_, sym, ap, _∙_}
 use mathlib.Core.List.{List, _++_, append-assoc}
-use Prim.Native.Nat.{ℕ, suc, _+_, _-_, _/_, _≤_, _<_}
+use Prim.Native.Nat.{ℕ, zero, suc, _+_, _-_, _/_, _≤_, _<_}
+use native.Mathlib.Nat.{add-div-right, div-eq-of-lt}
 use native.Mathlib.Numerals.{add-one}
 use native.Mathlib.Omega.{arith}
-use lib.Bits.{bitXor}
+use lib.Bits.{bitXor, xor-zero-r}
 use lib.ListN.{length, set, take, drop, getD, drop-of-length-le, length-drop}
 use lib.Seq.{drop-cons, drop-drop, take-suc, take-all, set-at, length-take-le}
-use Rattle.crc32.specs.Table.{entry, byBytes, shares, block, blocks, byBlocks}
+use Rattle.crc32.specs.Table.{entry, byBytes, shares, times, inRuns}
+use Rattle.crc32.proofs.Linear.{xor-assoc}
+use Rattle.crc32.proofs.Shares.{share-nil, share-cons}
 
 pub byte-more : (t : List ℕ) (c : ℕ) (l : List ℕ) (i : ℕ) → i < length l
     → byBytes t (bitXor (entry t 0 (bitXor c (getD l i 0))) (c / 256)) (drop (i + 1) l) ≡ byBytes t c (drop i l)
@@ -18,38 +21,39 @@ pub byte-none : (t : List ℕ) (c : ℕ) (l : List ℕ) (i : ℕ) → length l �
 unfolding byBytes
 byte-none t c l i h = ap (byBytes t c) (drop-of-length-le l h)
 
-pub share-more : (t : List ℕ) (after acc c : ℕ) (l : List ℕ) (i row : ℕ) → i < length l → row ≡ after + (length l - 1 - i)
-    → shares t after (bitXor acc (entry t row (bitXor c (getD l i 0)))) (c / 256) (drop (i + 1) l) ≡ shares t after acc c (drop i l)
-unfolding shares
-share-more t after acc c l i row h e =
-    let n : row ≡ after + length (drop (suc i) l) = omega (arith, length-drop (suc i) l) in
-    rw (add-one, drop-cons l i 0, n)
+pub late-more : (t : List ℕ) (acc : ℕ) (l : List ℕ) (i row : ℕ) → i < length l → getD l i 0 < 256 → row ≡ length l - 1 - i
+    → bitXor (bitXor acc (entry t row (getD l i 0))) (shares t 0 0 (drop (i + 1) l)) ≡ bitXor acc (shares t 0 0 (drop i l))
+late-more t acc l i row h k e =
+    let d = drop (suc i) l in
+    let n : row ≡ 0 + length d = omega (arith, length-drop (suc i) l) in
+    rw (add-one, drop-cons l i 0, n, share-cons t 0 0 (getD l i 0) d k) (xor-assoc acc (entry t (0 + length d) (getD l i 0)) (shares t 0 0 d))
 
-pub share-none : (t : List ℕ) (after acc c : ℕ) (l : List ℕ) (i : ℕ) → length l ≤ i → shares t after acc c (drop i l) ≡ acc
-unfolding shares
-share-none t after acc c l i h = ap (shares t after acc c) (drop-of-length-le l h)
+pub late-none : (t : List ℕ) (acc : ℕ) (l : List ℕ) (i : ℕ) → length l ≤ i → bitXor acc (shares t 0 0 (drop i l)) ≡ acc
+late-none t acc l i h =
+    ap (λ (d : List ℕ). bitXor acc (shares t 0 0 d)) (drop-of-length-le l h) ∙ ap (bitXor acc) (share-nil t 0 0) ∙ xor-zero-r acc
 
 -- what is lent as `&l[i..]`
 pub tail : (l : List ℕ) (i : ℕ) → take (length l - i) (drop i l) ≡ drop i l
 tail l i = take-all (length l - i) (drop i l) (omega (arith, length-drop i l))
 
-pub block-length : (l : List ℕ) (i : ℕ) → i + 16 ≤ length l → length (take (i + 16 - i) (drop i l)) ≡ 16
-block-length l i h =
-    let e : i + 16 - i ≡ 16 = omega arith in
-    length-take-le (i + 16 - i) (drop i l) (omega (arith, length-drop i l)) ∙ e
+-- what is lent as `&l[i..i + w]`
+pub run-length : (w : ℕ) (l : List ℕ) (i : ℕ) → i + w ≤ length l → length (take (i + w - i) (drop i l)) ≡ w
+run-length w l i h =
+    let e : i + w - i ≡ w = omega arith in
+    length-take-le (i + w - i) (drop i l) (omega (arith, length-drop i l)) ∙ e
 
-pub block-more : (t : List ℕ) (c : ℕ) (l : List ℕ) (i : ℕ) → i + 16 ≤ length l
-    → byBlocks t (block t c (take (i + 16 - i) (drop i l))) (drop (i + 16) l) ≡ byBlocks t c (drop i l)
-unfolding byBlocks blocks
-block-more t c l i h =
-    let k : i + 16 - i ≡ 16 = omega arith in
-    let e : length (drop i l) / 16 ≡ suc (length (drop (i + 16) l) / 16) = omega (arith, length-drop i l, length-drop (i + 16) l) in
-    rw (k, e) (ap (blocks (length (drop (i + 16) l) / 16) t (block t c (take 16 (drop i l)))) (sym (drop-drop 16 i l)))
+pub run-more : (w : ℕ) (f g : ℕ → List ℕ → ℕ) (c : ℕ) (l : List ℕ) (i : ℕ) → zero < w → i + w ≤ length l
+    → inRuns w f g (f c (take (i + w - i) (drop i l))) (drop (i + w) l) ≡ inRuns w f g c (drop i l)
+unfolding inRuns times
+run-more w f g c l i z h =
+    let k : i + w - i ≡ w = omega arith in
+    let e : length (drop i l) ≡ length (drop (i + w) l) + w = omega (arith, length-drop i l, length-drop (i + w) l) in
+    let d : length (drop i l) / w ≡ suc (length (drop (i + w) l) / w) = rw (e, add-div-right (length (drop (i + w) l)) z, add-one) in
+    rw (k, d) (ap (times (length (drop (i + w) l) / w) w f g (f c (take w (drop i l)))) (sym (drop-drop w i l)))
 
-pub block-none : (t : List ℕ) (c : ℕ) (l : List ℕ) → length l < 16 → byBlocks t c l ≡ byBytes t c l
-unfolding byBlocks blocks
-block-none t c l h =
-    let e : length l / 16 ≡ 0 = omega arith in rw e
+pub run-none : (w : ℕ) (f g : ℕ → List ℕ → ℕ) (c : ℕ) (l : List ℕ) → length l < w → inRuns w f g c l ≡ g c l
+unfolding inRuns times
+run-none w f g c l h = rw (div-eq-of-lt h)
 
 pub copy-more : (s d : List ℕ) (i : ℕ) → i < length s → i < length d
     → set (take i s ++ drop i d) i (getD s i 0) ≡ take (i + 1) s ++ drop (i + 1) d

@@ -19,22 +19,38 @@ unfoldable pub byBytes : List ℕ → ℕ → List ℕ → ℕ
 byBytes t c [] = c
 byBytes t c (b ∷ bs) = byBytes t (bitXor (entry t 0 (bitXor c b)) (c / 256)) bs
 
--- what a run of bytes with `after` bytes behind it adds to `acc`: each byte by the row for as many bytes as come after it
-unfoldable pub shares : List ℕ → ℕ → ℕ → ℕ → List ℕ → ℕ
-shares t after acc c [] = acc
-shares t after acc c (b ∷ bs) = shares t after (bitXor acc (entry t (after + length bs) (bitXor c b))) (c / 256) bs
+-- the number in some bytes, least byte first
+unfoldable pub number : List ℕ → ℕ
+number [] = 0
+number (b ∷ bs) = b + 256 * number bs
 
--- sixteen bytes: the last twelve do not depend on the register, so they come first
+-- what the n low bytes of a number add with `after` bytes behind them: each by the row for as many bytes as come after it
+unfoldable pub sharesOf : List ℕ → ℕ → ℕ → ℕ → ℕ
+sharesOf t after zero x = 0
+sharesOf t after (suc n) x = bitXor (entry t (after + n) x) (sharesOf t after n (x / 256))
+
+-- the same of some bytes, the register joined to them
+unfoldable pub shares : List ℕ → ℕ → ℕ → List ℕ → ℕ
+shares t after c bs = sharesOf t after (length bs) (bitXor c (number bs))
+
+-- sixteen bytes: the last twelve do not depend on the register
 unfoldable pub block : List ℕ → ℕ → List ℕ → ℕ
-block t c bs = shares t 12 (shares t 0 0 0 (drop 4 bs)) c (take 4 bs)
+block t c bs = bitXor (shares t 0 0 (drop 4 bs)) (shares t 12 c (take 4 bs))
 
--- n blocks, then the rest a byte at a time
-unfoldable pub blocks : ℕ → List ℕ → ℕ → List ℕ → ℕ
-blocks zero t c bs = byBytes t c bs
-blocks (suc n) t c bs = blocks n t (block t c (take 16 bs)) (drop 16 bs)
+-- n times w bytes by f, then the rest by g
+unfoldable pub times : ℕ → ℕ → (ℕ → List ℕ → ℕ) → (ℕ → List ℕ → ℕ) → ℕ → List ℕ → ℕ
+times zero w f g c bs = g c bs
+times (suc n) w f g c bs = times n w f g (f c (take w bs)) (drop w bs)
+
+-- w bytes at a time by f, and fewer by g
+unfoldable pub inRuns : ℕ → (ℕ → List ℕ → ℕ) → (ℕ → List ℕ → ℕ) → ℕ → List ℕ → ℕ
+inRuns w f g c bs = times (length bs / w) w f g c bs
+
+unfoldable pub byWords : List ℕ → ℕ → List ℕ → ℕ
+byWords t c bs = inRuns 4 (shares t 0) (byBytes t) c bs
 
 unfoldable pub byBlocks : List ℕ → ℕ → List ℕ → ℕ
-byBlocks t c bs = blocks (length bs / 16) t c bs
+byBlocks t c bs = inRuns 16 (block t) (byWords t) c bs
 
 unfoldable pub crc32By : List ℕ → List ℕ → ℕ
 crc32By t bs = bitXor (byBlocks t 0xFFFFFFFF bs) 0xFFFFFFFF

@@ -1,4 +1,4 @@
-// CRC-32 of IEEE 802.3: a byte at a time by a table of 256, and sixteen bytes a turn by sixteen such tables.
+// CRC-32 of IEEE 802.3: a byte at a time by a table of 256, and four or sixteen bytes a turn by as many such tables.
 mod rows;
 mod table;
 
@@ -8,7 +8,7 @@ ghost use mathlib.Core.Path.{_≡_};
 ghost use Prim.Native.Nat.{_+_, _*_, _<_, _≤_};
 ghost use lib.ListN.{length};
 ghost use Rattle.crc32.specs.Crc32.{crc32Of};
-ghost use Rattle.crc32.specs.Table.{IsTables, entry, byBytes, shares, block, byBlocks, crc32By, Copied};
+ghost use Rattle.crc32.specs.Table.{IsTables, entry, byBytes, shares, block, byWords, byBlocks, crc32By, Copied};
 
 // Start and final exclusive-or.
 const ONES: u32 = 0xFFFF_FFFF;
@@ -42,31 +42,53 @@ fn by_bytes(t: &[u32], start: u32, bytes: &[u8]) -> u32
     crc
 }
 
-fn add_shares(t: &[u32], after: usize, start: u32, crc: u32, bytes: &[u8]) -> u32
-    requires { ⌜ (after + length (now bytes) ≤ 16) × (4096 ≤ length (now t)) ⌝ }
-    ensures { λ r. ⌜ r ≡ shares (now (t .entry)) after start crc (now (bytes .entry)) ⌝ }
+// What bytes add that are the last of a run.
+fn late_bytes(t: &[u32; 4096], bytes: &[u8]) -> u32
+    requires { ⌜ length (now bytes) ≤ 16 ⌝ }
+    ensures { λ r. ⌜ r ≡ shares (now (t .entry)) 0 0 (now (bytes .entry)) ⌝ }
 {
-    let mut acc = start;
-    let mut c = crc;
+    let mut acc: u32 = 0;
     let mut i: usize = 0;
     while i < bytes.len() {
-        acc ^= look(t, after + (bytes.len() - 1 - i), c ^ wide(bytes[i]));
-        c = c >> 8;
+        acc ^= look(t, bytes.len() - 1 - i, wide(bytes[i]));
         i += 1;
     }
     acc
 }
 
-fn by_block(t: &[u32], crc: u32, bytes: &[u8]) -> u32
-    requires { ⌜ (length (now bytes) ≡ 16) × (4096 ≤ length (now t)) ⌝ }
-    ensures { λ r. ⌜ r ≡ block (now (t .entry)) crc (now (bytes .entry)) ⌝ }
+// What four bytes add with `after` bytes behind them, the register joined to them.
+fn early_bytes(t: &[u32; 4096], after: usize, crc: u32, bytes: &[u8]) -> u32
+    requires { ⌜ (after ≤ 12) × (length (now bytes) ≡ 4) ⌝ }
+    ensures { λ r. ⌜ r ≡ shares (now (t .entry)) after crc (now (bytes .entry)) ⌝ }
 {
-    let late = add_shares(t, 0, 0, 0, &bytes[4..]);
-    add_shares(t, 12, late, crc, &bytes[..4])
+    let x = crc ^ buffers::u32_of(bytes[0], bytes[1], bytes[2], bytes[3]);
+    look(t, after + 3, x)
+        ^ look(t, after + 2, x >> 8)
+        ^ look(t, after + 1, x >> 16)
+        ^ look(t, after, x >> 24)
 }
 
-fn by_blocks(t: &[u32], start: u32, bytes: &[u8]) -> u32
-    requires { ⌜ 4096 ≤ length (now t) ⌝ }
+fn by_block(t: &[u32; 4096], crc: u32, bytes: &[u8]) -> u32
+    requires { ⌜ length (now bytes) ≡ 16 ⌝ }
+    ensures { λ r. ⌜ r ≡ block (now (t .entry)) crc (now (bytes .entry)) ⌝ }
+{
+    late_bytes(t, &bytes[4..]) ^ early_bytes(t, 12, crc, &bytes[..4])
+}
+
+fn by_words(t: &[u32; 4096], start: u32, bytes: &[u8]) -> u32
+    ensures { λ r. ⌜ r ≡ byWords (now (t .entry)) start (now (bytes .entry)) ⌝ }
+{
+    let mut crc = start;
+    let mut i: usize = 0;
+    while 4 <= bytes.len() - i {
+        let e = i + 4;
+        crc = early_bytes(t, 0, crc, &bytes[i..e]);
+        i = e;
+    }
+    by_bytes(t, crc, &bytes[i..])
+}
+
+fn by_blocks(t: &[u32; 4096], start: u32, bytes: &[u8]) -> u32
     ensures { λ r. ⌜ r ≡ byBlocks (now (t .entry)) start (now (bytes .entry)) ⌝ }
 {
     let mut crc = start;
@@ -76,7 +98,7 @@ fn by_blocks(t: &[u32], start: u32, bytes: &[u8]) -> u32
         crc = by_block(t, crc, &bytes[i..e]);
         i = e;
     }
-    by_bytes(t, crc, &bytes[i..])
+    by_words(t, crc, &bytes[i..])
 }
 
 fn copy(src: &[u32], dst: &mut [u32])
@@ -108,10 +130,13 @@ pub fn tables() -> [u32; 4096]
     t
 }
 
-// By lent tables. Any tables have a defined result; those of `tables` give the CRC-32.
+// By lent tables. Any tables have a defined result; those of `tables` give the CRC-32. Short values go without a call of `by_blocks`.
 pub fn crc32_with(t: &[u32; 4096], bytes: &[u8]) -> u32
     ensures { λ r. ⌜ (r ≡ crc32By (now (t .entry)) (now (bytes .entry))) × (IsTables 16 (now (t .entry)) → r ≡ crc32Of (now (bytes .entry))) ⌝ }
 {
+    if bytes.len() < 16 {
+        return by_words(t, ONES, bytes) ^ ONES;
+    }
     by_blocks(t, ONES, bytes) ^ ONES
 }
 
@@ -123,6 +148,6 @@ pub fn crc32(bytes: &[u8]) -> u32
         by_bytes(&t, ONES, bytes) ^ ONES
     } else {
         let t = tables();
-        crc32_with(&t, bytes)
+        by_blocks(&t, ONES, bytes) ^ ONES
     }
 }

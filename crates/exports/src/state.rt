@@ -57,7 +57,7 @@ fn u32_at(bytes: &[u8], at: usize) -> u32
     requires { ⌜ at + 4 ≤ length (now bytes) ⌝ }
     ensures { λ r. ⌜ r ≡ u32At (now (bytes .entry)) at ⌝ }
 {
-    bank::u32_of(bytes[at], bytes[at + 1], bytes[at + 2], bytes[at + 3])
+    buffers::u32_of(bytes[at], bytes[at + 1], bytes[at + 2], bytes[at + 3])
 }
 
 fn entry_at(bytes: &[u8]) -> Entry

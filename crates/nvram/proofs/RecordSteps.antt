@@ -1,14 +1,13 @@
 -- What the functions on records need, over variables.
 use Prim.Native.Nat.{ℕ, _+_, _-_, _≤_, _<_}
-use mathlib.Core.Path.{_≡_, refl, sym, ap, _∙_}
+use mathlib.Core.Path.{_≡_, refl, sym, ap, _∙_, subst}
 use mathlib.Core.List.{List, _++_}
 use mathlib.Core.Bool.{Bool, true, false, _&&_, cond}
 use mathlib.Core.Option.{Option, none, some}
 use native.Mathlib.Omega.{arith}
-use lib.Dec.{eqb}
 use lib.ListN.{length, getD, set, take, drop, drop-of-length-le, length-drop, length-set}
-use lib.Seq.{drop-drop}
-use borrow.Author.Tests.{eq-eqb, ne-eqb, eqb-true, eqb-false}
+use lib.Seq.{getD-drop, drop-drop}
+use borrow.Author.Tests.{eq-eqb, ne-eqb}
 use Rattle.crc32.specs.Crc32.{crc32Of}
 use Rattle.buffers.specs.Bytes.{eqBytes}
 use Rattle.buffers.proofs.Walk.{tail}
@@ -21,55 +20,89 @@ use Rattle.bank.specs.WellFormed.{FineRecord}
 use Rattle.bank.proofs.WalkLaws.{by-test}
 use Rattle.bank.proofs.LeafLaws.{header-long, name-is, value-is, crc-is}
 use Rattle.bank.proofs.RecordBack.{record-of-back}
+use Rattle.nvram.specs.declared.records.Next.{Next}
+use Rattle.nvram.specs.declared.records.Next.the-variants.{Onward, Stop}
 use Rattle.nvram.specs.Edit.{sameType, matches, deleted}
 use Rattle.nvram.specs.Part.{isRecord, prepend, viewRecords, given}
-use Rattle.nvram.specs.Records.{deletedAt}
+use Rattle.nvram.specs.Records.{nextAfter, deletedAt}
 use Rattle.nvram.proofs.RecordLaws.{Strict, strict, is-record, view-next, view-end}
 
--- the test of one record
-module _ (s : List ℕ) where
-  pub no-record : (Strict s → ⊥) → false ≡ isRecord s
-  no-record f = go (isRecord s) refl
-    where
-      go : (t : Bool) → isRecord s ≡ t → false ≡ t
-      go true e = absurd (f (strict s e))
-      go false e = refl
+-- what is lent from a place on
+abbrev pub lent : List ℕ → ℕ → List ℕ
+lent w at = take (length w - at) (drop at w)
 
-  by-sum : (a b : ℕ) → (a ≡ b → Strict s) → (Strict s → a ≡ b) → eqb a b ≡ isRecord s
-  by-sum a b f g = go (eqb a b) refl
-    where
-      go : (t : Bool) → eqb a b ≡ t → t ≡ isRecord s
-      go true e = sym (is-record s (f (eqb-true a b e)))
-      go false e = no-record (λ k. eqb-false a b e (g k))
+-- the record at a place
+module _ (s : List ℕ) (at : ℕ) where
+  abbrev x : List ℕ
+  x = lent s at
 
-  -- the test of the sum, which is the last one, in the numbers that the code has
-  pub sum-test : 36 ≤ length s → u16At s 0 ≡ 0x55AA → getD s 3 0 ≡ 0 → (h : VarHeader) → h ≡ parsedHeader s → 1 ≤ h .«name_size» → (end : ℕ)
-      → end ≡ 36 + h .«name_size» + h .«data_size»
-      → end ≤ length s
-      → (value : ℕ)
-      → value ≡ 36 + h .«name_size» + 0
-      → getD s (value - 1) 0 ≡ 0
-      → (sum : ℕ)
-      → sum ≡ crc32Of (take (end - value) (drop value s))
-      → eqb (h .crc) sum ≡ isRecord s
-  sum-test long starts reserved h e named end size ends value from closed sum summed =
-      let n = name-is s long h e in
-      let v = value-is s long h e in
-      let q : value - 1 ≡ 35 + nameAt s = omega arith in
-      let a : end - value ≡ valueAt s = omega arith in
-      let b : value ≡ 36 + nameAt s = omega arith in
-      let sum-is : sum ≡ crc32Of (take (valueAt s) (drop (36 + nameAt s) s)) = summed ∙ rw (a, b) in
-      by-sum (h .crc) sum
-      (λ f. record {
-        long = long;
-        starts = starts;
-        reserved = reserved;
-        named = omega arith;
-        ends = omega arith;
-        closed = ap (λ (i : ℕ). getD s i 0) (sym q) ∙ closed;
-        summed = sym (crc-is s long h e) ∙ f ∙ sum-is;
-      })
-      (λ k. crc-is s long h e ∙ k .summed ∙ sym sum-is)
+  pub no-next : (Strict x → ⊥) → Stop ≡ nextAfter at s
+  unfolding nextAfter
+  no-next f =
+      by-test (λ (r : Next). Stop ≡ r) (isRecord (drop at s)) (Onward (at + sizeAt (drop at s))) Stop
+      (λ t. absurd (f (subst Strict (sym (tail s at)) (strict (drop at s) t))))
+      (λ _. refl)
+
+  next : Strict x → (end : ℕ) → end ≡ at + sizeAt x → Onward end ≡ nextAfter at s
+  unfolding nextAfter
+  next k end e = ap Onward (e ∙ ap (λ (l : List ℕ). at + sizeAt l) (tail s at)) ∙ rw (is-record (drop at s) (subst Strict (tail s at) k))
+
+  -- in the numbers that the code has: its value begins n bytes further on
+  module _ (long : 36 ≤ length x) (h : VarHeader) (e : h ≡ parsedHeader x) (n : ℕ) (q : n ≡ 36 + h .«name_size» + 0) where
+    abbrev value : ℕ
+    value = at + n
+
+    abbrev end : ℕ
+    end = value + h .«data_size»
+
+    name-size : h .«name_size» ≡ nameAt x
+    name-size = name-is x long h e
+
+    data-size : h .«data_size» ≡ valueAt x
+    data-size = value-is x long h e
+
+    room : length x ≡ length s - at
+    room = ap length (tail s at) ∙ length-drop at s
+
+    closing-is : getD s (value - 1) 0 ≡ getD x (35 + nameAt x) 0
+    closing-is =
+        let i : value - 1 ≡ at + (35 + nameAt x) = omega (arith, name-size) in
+        ap (λ (j : ℕ). getD s j 0) i ∙ sym (getD-drop at s (35 + nameAt x) 0) ∙ ap (λ (l : List ℕ). getD l (35 + nameAt x) 0) (sym (tail s at))
+
+    bytes-are : take (end - value) (drop value s) ≡ take (valueAt x) (drop (36 + nameAt x) x)
+    bytes-are =
+        let i : end - value ≡ valueAt x = omega (arith, data-size) in
+        let j : n ≡ 36 + nameAt x = omega (arith, name-size) in
+        rw (i, j, tail s at, drop-drop (36 + nameAt (drop at s)) at s)
+
+    pub next-beyond : length s < end → Stop ≡ nextAfter at s
+    next-beyond f = no-next (λ k. omega (arith, k .ends, name-size, data-size, room))
+
+    pub next-open : (getD s (value - 1) 0 ≡ 0 → ⊥) → Stop ≡ nextAfter at s
+    next-open f = no-next (λ k. f (closing-is ∙ k .closed))
+
+    module _ (sum : ℕ) (summed : sum ≡ crc32Of (take (end - value) (drop value s))) where
+      sum-is : sum ≡ crc32Of (take (valueAt x) (drop (36 + nameAt x) x))
+      sum-is = summed ∙ ap crc32Of bytes-are
+
+      pub next-spoilt : (h .crc ≡ sum → ⊥) → Stop ≡ nextAfter at s
+      next-spoilt f = no-next (λ k. f (crc-is x long h e ∙ k .summed ∙ sym sum-is))
+
+      pub next-end : u16At x 0 ≡ 0x55AA → getD x 3 0 ≡ 0 → 1 ≤ h .«name_size» → end ≤ length s → getD s (value - 1) 0 ≡ 0 → h .crc ≡ sum
+          → Onward end ≡ nextAfter at s
+      next-end starts reserved named ends closed f =
+          next
+          record {
+            long = long;
+            starts = starts;
+            reserved = reserved;
+            named = omega (arith, name-size);
+            ends = omega (arith, name-size, data-size, room);
+            closed = sym closing-is ∙ closed;
+            summed = sym (crc-is x long h e) ∙ f ∙ sum-is;
+          }
+          end
+          (omega (arith, name-size, data-size))
 
 -- the size of a record, by the header that was read
 pub size-read : (s : List ℕ) → isRecord s ≡ true → (h : VarHeader) → h ≡ parsedHeader s → (n : ℕ) → n ≡ 36 + h .«name_size» + h .«data_size»
@@ -82,34 +115,43 @@ unfolding prepend
 given-prepend r none = refl
 given-prepend r (some rs) = refl
 
--- past a record of n bytes
-pub record Onward (s : List ℕ) (at n : ℕ) : Type 0 where
-  pub more : 0 < n
-  pub within : at + n ≤ length s
-  pub same : given (viewRecords (drop at s)) ≡ given (viewRecords (drop (at + n) s))
+told-onward : (t : Bool) (n end : ℕ) → Onward end ≡ cond t (Onward n) Stop → (t ≡ true) × (n ≡ end)
+told-onward true n end e = (refl, cc)
+told-onward false n end e = let z : _≡_ {A = ℕ} 0 1 = cc in absurd (omega arith)
 
--- what is lent from a place on
-abbrev pub lent : List ℕ → ℕ → List ℕ
-lent w at = take (length w - at) (drop at w)
+told-stop : (t : Bool) (n : ℕ) → Stop ≡ cond t (Onward n) Stop → t ≡ false
+told-stop true n e = let z : _≡_ {A = ℕ} 0 1 = cc in absurd (omega arith)
+told-stop false n e = refl
+
+-- past the record at a place, to its end
+pub record Further (s : List ℕ) (at end : ℕ) : Type 0 where
+  pub more : at < end
+  pub within : end ≤ length s
+  pub same : given (viewRecords (drop at s)) ≡ given (viewRecords (drop end s))
 
 module _ (s : List ℕ) (at : ℕ) where
-  given-lent : at < length s → (t : Bool) → isRecord (lent s at) ≡ t
-      → given (viewRecords (drop at s)) ≡ given (cond t (prepend (recordOf (lent s at)) (viewRecords (drop (at + sizeAt (lent s at)) s))) none)
-  given-lent h t e =
-      rw (← e, tail s at, ← drop-drop (sizeAt (drop at s)) at s) (ap given (view-next (drop at s) (omega (arith, length-drop at s))))
+  given-turn : at < length s → (t : Bool) → isRecord (drop at s) ≡ t
+      → given (viewRecords (drop at s)) ≡ given (cond t (prepend (recordOf (drop at s)) (viewRecords (drop (at + sizeAt (drop at s)) s))) none)
+  given-turn h t e =
+      rw (← e, ← drop-drop (sizeAt (drop at s)) at s) (ap given (view-next (drop at s) (omega (arith, length-drop at s))))
 
-  pub given-next : at < length s → isRecord (lent s at) ≡ true → (n : ℕ) → n ≡ sizeAt (lent s at) → Onward s at n
-  given-next h t n e =
-      let k = strict (lent s at) t in
-      record {
-        more = omega arith;
-        within = omega (arith, k .ends, ap length (tail s at), length-drop at s);
-        same = given-lent h true t ∙ given-prepend (recordOf (lent s at)) (viewRecords (drop (at + sizeAt (lent s at)) s))
-            ∙ ap (λ (i : ℕ). given (viewRecords (drop (at + i) s))) (sym e);
-      }
+  -- by what the code is told of that record
+  module _ (h : at < length s) (r : Next) (e : r ≡ nextAfter at s) where
+    pub given-next : (end : ℕ) → r ≡ Onward end → Further s at end
+    unfolding nextAfter
+    given-next end f =
+        let o = told-onward (isRecord (drop at s)) (at + sizeAt (drop at s)) end (sym f ∙ e) in
+        let k = strict (drop at s) (o .0) in
+        record {
+          more = omega (arith, o .1);
+          within = omega (arith, o .1, k .ends, length-drop at s);
+          same = given-turn h true (o .0) ∙ given-prepend (recordOf (drop at s)) (viewRecords (drop (at + sizeAt (drop at s)) s))
+              ∙ ap (λ (i : ℕ). given (viewRecords (drop i s))) (o .1);
+        }
 
-  pub given-stop : at < length s → isRecord (lent s at) ≡ false → given (viewRecords (drop at s)) ≡ false
-  given-stop h e = given-lent h false e
+    pub given-stop : r ≡ Stop → given (viewRecords (drop at s)) ≡ false
+    unfolding nextAfter
+    given-stop f = given-turn h false (told-stop (isRecord (drop at s)) (at + sizeAt (drop at s)) (sym f ∙ e))
 
   pub given-end : length s ≤ at → given (viewRecords (drop at s)) ≡ true
   given-end h = ap (λ (l : List ℕ). given (viewRecords l)) (drop-of-length-le s h) ∙ ap given view-end

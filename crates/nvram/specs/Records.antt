@@ -1,16 +1,19 @@
 -- Records in the work area, as the functions that walk them speak of them.
-use Prim.Native.Nat.{ℕ, _-_, _≤_}
+use Prim.Native.Nat.{ℕ, _+_, _-_, _≤_}
 use mathlib.Core.Path.{_≡_}
 use mathlib.Core.List.{List}
 use mathlib.Core.Bool.{cond}
 use mathlib.Core.Option.{Option, none, some}
 use lib.ListN.{length, getD, set, take, drop}
 use Rattle.bank.specs.declared.variable.VarType.{VarType}
-use Rattle.bank.specs.Record.{Record, recordOf, recordsBytes, deletedState}
+use Rattle.bank.specs.Record.{Record, recordOf, sizeAt, recordsBytes, deletedState}
 use Rattle.bank.specs.WellFormed.{FineRecords}
 use Rattle.nvram.specs.declared.records.Located.{Located}
 use Rattle.nvram.specs.declared.records.Located.the-variants.{At, Nothing}
+use Rattle.nvram.specs.declared.records.Next.{Next}
+use Rattle.nvram.specs.declared.records.Next.the-variants.{Onward, Stop}
 use Rattle.nvram.specs.Edit.{matches, Found}
+use Rattle.nvram.specs.Part.{isRecord}
 
 -- w holds the records rs from a place up to another
 pub record Holds (w : List ℕ) (from to : ℕ) (rs : List Record) : Type 0 where
@@ -18,6 +21,10 @@ pub record Holds (w : List ℕ) (from to : ℕ) (rs : List Record) : Type 0 wher
   pub low : from ≤ to
   pub high : to ≤ length w
   pub is : take (to - from) (drop from w) ≡ recordsBytes rs
+
+-- where the record at a place ends, if one stands there
+unfoldable pub nextAfter : ℕ → List ℕ → Next
+nextAfter at s = cond (isRecord (drop at s)) (Onward (at + sizeAt (drop at s))) Stop
 
 -- s with the record that begins it deleted if it matches
 unfoldable pub deletedAt : List ℕ → VarType → List ℕ → List ℕ

@@ -12,12 +12,18 @@ ghost use Rattle.bank.specs.Record.{Record, recordOf, sizeAt, recordBytes, reco
 ghost use Rattle.bank.specs.Write.{over};
 ghost use Rattle.nvram.specs.Edit.{sameType, matches, removed, fresh, foundIn};
 ghost use Rattle.nvram.specs.Part.{isRecord, viewRecords, given};
-ghost use Rattle.nvram.specs.Records.{Holds, deletedAt, located};
+ghost use Rattle.nvram.specs.Records.{Holds, nextAfter, deletedAt, located};
 
 // A value's place and length, or nothing.
 pub(crate) enum Located {
     At(usize, usize),
     Nothing,
+}
+
+// Where the record at a place ends, or that none stands there.
+enum Next {
+    Onward(usize),
+    Stop,
 }
 
 fn same_type(a: VarType, b: VarType) -> bool
@@ -35,36 +41,36 @@ fn same_type(a: VarType, b: VarType) -> bool
     }
 }
 
-// Whether s begins with a record as it would be written; t are the checksum's tables.
-fn is_record(t: &[u32; 4096], s: &[u8]) -> bool
-    requires { ⌜ IsTables 16 (now t) ⌝ }
-    ensures { λ r. ⌜ r ≡ isRecord (now (s .entry)) ⌝ }
+// Where the record at a place of s ends, if one stands there as it would be written; t are the checksum's tables.
+fn next_record(t: &[u32; 4096], s: &[u8], at: usize) -> Next
+    requires { ⌜ (at ≤ length (now s)) × IsTables 16 (now t) ⌝ }
+    ensures { λ r. ⌜ r ≡ nextAfter at (now (s .entry)) ⌝ }
 {
-    if s.len() < Variable::HEADER_SIZE {
-        return false;
+    let rest = &s[at..];
+    if rest.len() < Variable::HEADER_SIZE {
+        return Next::Stop;
     }
-    if s[0] != 0xAA {
-        return false;
+    // Start number and reserved byte in one test.
+    if buffers::u32_of(rest[0], rest[1], 0, rest[3]) != 0x55AA {
+        return Next::Stop;
     }
-    if s[1] != 0x55 {
-        return false;
-    }
-    if s[3] != 0 {
-        return false;
-    }
-    let header = VarHeader::parse(s);
+    let header = VarHeader::parse(rest);
     if header.name_size < 1 {
-        return false;
+        return Next::Stop;
     }
-    let end = Variable::size(header.name_size, header.data_size);
+    let value = at + Variable::size(header.name_size, 0);
+    let end = value + header.data_size as usize;
     if s.len() < end {
-        return false;
+        return Next::Stop;
     }
-    let value = Variable::size(header.name_size, 0);
     if s[value - 1] != 0 {
-        return false;
+        return Next::Stop;
     }
-    header.crc == crc32::crc32_with(t, &s[value..end])
+    if header.crc == crc32::crc32_with(t, &s[value..end]) {
+        Next::Onward(end)
+    } else {
+        Next::Stop
+    }
 }
 
 // Whether s is made of such records, to its last byte.
@@ -74,12 +80,14 @@ pub(crate) fn are_records(t: &[u32; 4096], s: &[u8]) -> bool
 {
     let mut at: usize = 0;
     while at < s.len() {
-        let rest = &s[at..];
-        if !is_record(t, rest) {
-            return false;
+        match next_record(t, s, at) {
+            Next::Onward(end) => {
+                at = end;
+            }
+            Next::Stop => {
+                return false;
+            }
         }
-        let header = VarHeader::parse(rest);
-        at += Variable::size(header.name_size, header.data_size);
     }
     true
 }

@@ -2,8 +2,10 @@
 use Prim.Native.Nat.{ℕ, _+_, _≤_, _<_}
 use mathlib.Core.Path.{_≡_, refl, sym, ap, ap₂, _∙_, subst}
 use mathlib.Core.List.{List, [], _∷_}
+use mathlib.Core.Logic.{_≢_}
 use mathlib.Core.Bool.{Bool, true, false, _&&_, cond}
 use native.Mathlib.Omega.{arith}
+use borrow.Author.Tests.{eq-eqb, ne-eqb}
 use lib.Dec.{eqb}
 use lib.ListN.{length, getD, take, drop}
 use Rattle.buffers.specs.Bytes.{eqBytes}
@@ -22,16 +24,19 @@ figures-are : {a b c d : ℕ} → a ≡ c → b ≡ d → _≡_ {A = Figures} (r
 figures-are e f = λ i. record { system = e i; common = f i }
 
 -- the record that begins s, in the numbers that the code has
-pub count-is : (f : Figures) (s : List ℕ) (n : ℕ) (p q : Bool) → p ≡ eqBytes (take 16 (drop 16 s)) systemGuid
-    → q ≡ eqBytes (take 16 (drop 16 s)) commonGuid
-    → (a b : ℕ)
-    → a ≡ cond (eqb (getD s 2 0) 0x7F && p) n 0
-    → b ≡ cond (eqb (getD s 2 0) 0x7F && q) n 0
-    → record { system = f .system + a; common = f .common + b } ≡ counted f (recordOf s) n
-unfolding counted liveOf live recordOf
-count-is f s n p q e g a b h k =
-    figures-are (ap (λ (i : ℕ). f .system + i) (h ∙ ap (λ (t : Bool). cond (eqb (getD s 2 0) 0x7F && t) n 0) e))
-    (ap (λ (i : ℕ). f .common + i) (k ∙ ap (λ (t : Bool). cond (eqb (getD s 2 0) 0x7F && t) n 0) g))
+module _ (f : Figures) (s : List ℕ) (n : ℕ) where
+  pub count-live : getD s 2 0 ≡ 0x7F → (p q : Bool) → p ≡ eqBytes (take 16 (drop 16 s)) systemGuid
+      → q ≡ eqBytes (take 16 (drop 16 s)) commonGuid
+      → (a b : ℕ)
+      → a ≡ cond p n 0
+      → b ≡ cond q n 0
+      → record { system = f .system + a; common = f .common + b } ≡ counted f (recordOf s) n
+  unfolding counted liveOf live recordOf
+  count-live t p q e g a b h k = rw (eq-eqb _ _ t, h, k, e, g)
+
+  pub count-dead : getD s 2 0 ≢ 0x7F → f ≡ counted f (recordOf s) n
+  unfolding counted liveOf live recordOf
+  count-dead t = rw (ne-eqb _ _ t) (figures-are (omega arith) (omega arith))
 
 -- f, and the figures of some records on top of it
 unfoldable pub plus : Figures → List Record → Figures

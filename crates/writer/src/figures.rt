@@ -28,13 +28,15 @@ impl Figures {
         requires { ⌜ (36 ≤ length (now s)) × (self .system + n < 18446744073709551616) × (self .common + n < 18446744073709551616) ⌝ }
         ensures { λ r. ⌜ r ≡ counted self (recordOf (now (s .entry))) n ⌝ }
     {
-        let live = s[2] == Variable::ADDED;
+        if s[2] != Variable::ADDED {
+            return self;
+        }
         let system = Variable::SYSTEM_GUID;
         let common = Variable::COMMON_GUID;
         let guid = &s[16..32];
         Figures {
-            system: self.system + count_if(live & buffers::same(guid, &system), n),
-            common: self.common + count_if(live & buffers::same(guid, &common), n),
+            system: self.system + count_if(buffers::same(guid, &system), n),
+            common: self.common + count_if(buffers::same(guid, &common), n),
         }
     }
 }

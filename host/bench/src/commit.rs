@@ -1,5 +1,5 @@
 //! Commits in place and with a move, an insert and its commit, and the whole image, on 2 and 16
-//! banks, nearly empty and full.
+//! banks, nearly empty and full. Beside them, what the checksums alone cost that refusal 6 asks for.
 
 use std::borrow::Cow;
 use std::cell::RefCell;
@@ -9,6 +9,7 @@ use std::io;
 use image::{Record, BANK, HEADER};
 use oracle::{v3, Nvram, NvramWriter, Partition};
 
+use crate::checksum::scalar;
 use crate::lent::VALUE;
 use crate::measure::{measure, Effort};
 use crate::store::{self, contender, print_figures, revive, verdict, Case};
@@ -69,9 +70,14 @@ fn calls(case: &Case, effort: Effort) -> Vec<String> {
     let lent = RefCell::new(case.opened(&image));
     let store = RefCell::new(v3::Nvram::parse(&image).expect("Valid banks"));
     let mut bars = Vec::new();
+    let checksums = |_: &[u8]| checksums(case);
     let mut pair =
         |name: &str, bar: bool, rust: &dyn Fn(&[u8]) -> u32, port: &dyn Fn(&[u8]) -> u32| {
-            let contenders = [contender("Rust", rust), contender("port", port)];
+            let contenders = [
+                contender("Rust", rust),
+                contender("port", port),
+                contender("crc32fast, scalar, of every value once", &checksums),
+            ];
             let figures = measure(&contenders, &case.last().key, effort);
             println!("   {name}");
             print_figures(&contenders, &figures);
@@ -122,6 +128,14 @@ impl NvramWriter for Nowhere {
     }
 }
 
+/// The checksums that one check goes through, of every value of every bank, in sum.
+fn checksums(case: &Case) -> u32 {
+    let records = (0..case.banks).flat_map(|_| black_box(&case.records));
+    records.fold(0, |sum: u32, record| {
+        sum.wrapping_add(scalar(&record.value))
+    })
+}
+
 /// Answers 1 if it was accepted.
 fn rust_commit(store: &mut v3::Nvram) -> u32 {
     u32::from(store.apply(&mut Nowhere).is_ok())
@@ -165,6 +179,9 @@ mod tests {
             let mut lent = case.opened(&image);
             let mut store = v3::Nvram::parse(&image).unwrap();
             let (state, work) = (lent.state, lent.work.clone());
+            let one = |sum: u32, r: &Record| sum.wrapping_add(crc32fast::hash(&r.value));
+            let sum = case.records.iter().fold(0, one);
+            assert_eq!(checksums(case), sum.wrapping_mul(case.banks as u32));
             for _ in 0..2 {
                 assert_eq!((rust_commit(&mut store), lent.commit()), (1, 1));
                 let both = (rust_insert_commit(&mut store, key), lent.insert_commit(key));

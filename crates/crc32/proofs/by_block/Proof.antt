@@ -1,7 +1,6 @@
-use mathlib.Core.Path.{sym, ap, _∙_}
-use Prim.Native.Nat.{ℕ}
+use mathlib.Core.Path.{sym, ap, ap₂, _∙_}
 use native.Mathlib.Omega.{arith}
-use lib.ListN.{take}
+use lib.Bits.{bitXor}
 use lib.Seq.{length-take-le}
 use Rattle.crc32.specs.Table.{block, shares}
 use Rattle.crc32.proofs.Walk.{tail}
@@ -9,39 +8,37 @@ use borrow.Author.Needs.{needs}
 use Rattle.crc32.proofs.by_block.Statement.{statement}
 use Rattle.crc32.proofs.by_block.Tie as tie
 
-sub-add-shares : tie.Need-sub-add-shares
-sub-add-shares c = search needs
+sub-late-bytes : tie.Need-sub-late-bytes
+sub-late-bytes c = search needs
 
-part-add-shares-start : tie.Need-part-add-shares-start
-part-add-shares-start c = search needs
+part-late-bytes-start : tie.Need-part-late-bytes-start
+part-late-bytes-start c = search needs
 
-part-add-shares-end : tie.Need-part-add-shares-end
-part-add-shares-end c = search needs
+part-late-bytes-end : tie.Need-part-late-bytes-end
+part-late-bytes-end c = search needs
 
-add-shares-requires : tie.Need-add-shares-requires
-add-shares-requires c κs = search needs
+late-bytes-requires : tie.Need-late-bytes-requires
+late-bytes-requires c κs = search needs
 
-slice-aggregate-add-shares : tie.Need-slice-aggregate-add-shares
-slice-aggregate-add-shares c = sym (length-take-le 4 (c .before .before .before .before .before .args .bytes .now) (omega arith))
+slice-aggregate-early-bytes : tie.Need-slice-aggregate-early-bytes
+slice-aggregate-early-bytes c = sym (length-take-le 4 (c .before .before .before .before .args .bytes .now) (omega arith))
 
-add-shares-requires-2 : tie.Need-add-shares-requires-2
-add-shares-requires-2 c κs = (omega (arith, length-take-le 4 (c .before .before .before .before .before .args .bytes .now) (omega arith)), search needs)
+early-bytes-requires : tie.Need-early-bytes-requires
+early-bytes-requires c κs = (search needs, length-take-le 4 (c .before .before .before .before .args .bytes .now) (omega arith))
 
 returns : tie.Need-returns
 unfolding block
-returns c = let a = c .before .before .before .before .before .before .args in
-    c .add-shares2 .ensures
-    ∙ ap (λ (x : ℕ). shares (a .t .now) 12 x (a .crc) (take 4 (a .bytes .now)))
-    (c .before .before .add-shares .ensures ∙ ap (shares (a .t .now) 0 0 0) (tail (a .bytes .now) 4))
+returns c = let a = c .before .before .before .before .before .args in
+    ap₂ bitXor (c .before .before .late-bytes .ensures ∙ ap (shares (a .t .now) 0 0) (tail (a .bytes .now) 4)) (c .early-bytes .ensures)
 
 pub by-block-spec : {M : Type 1} → statement M
 by-block-spec =
     tie.close
     (tie.spec
-    sub-add-shares
-    part-add-shares-start
-    part-add-shares-end
-    add-shares-requires
-    slice-aggregate-add-shares
-    add-shares-requires-2
+    sub-late-bytes
+    part-late-bytes-start
+    part-late-bytes-end
+    late-bytes-requires
+    slice-aggregate-early-bytes
+    early-bytes-requires
     returns)

@@ -1,10 +1,11 @@
-use Rattle.crc32.proofs.Walk.{block-length, tail, block-more, block-none}
+use Rattle.crc32.proofs.Walk.{run-length, tail, run-more, run-none}
 use mathlib.Core.Path.{_≡_, sym, ap, _∙_}
 use Prim.Native.Nat.{_-_, _≤_}
 use native.Mathlib.Omega.{arith}
 use borrow.Author.Needs.{needs}
+use lib.Dec.{lit≤}
 use lib.ListN.{length, drop, length-drop}
-use Rattle.crc32.specs.Table.{byBytes, byBlocks}
+use Rattle.crc32.specs.Table.{block, byWords, byBlocks}
 use Rattle.crc32.proofs.by_blocks.Statement.{statement}
 use Rattle.crc32.proofs.by_blocks.Tie as tie
 
@@ -33,31 +34,33 @@ part-by-block-end : tie.Need-part-by-block-end Inv-loop μ-loop
 part-by-block-end c = search needs
 
 by-block-requires : tie.Need-by-block-requires Inv-loop μ-loop
-by-block-requires c κs = (block-length (c .before .before .before .before .before .args .bytes .now) (c .before .before .loop .i) (omega arith), search needs)
+by-block-requires c κs = run-length 16 (c .before .before .before .before .args .bytes .now) (c .before .before .loop .i) (omega arith)
 
 loop-less : tie.Need-loop-less Inv-loop μ-loop
 loop-less c = search needs
 
 loop-again : tie.Need-loop-again Inv-loop μ-loop
-loop-again c = let now = c .before .before .before .loop in let a = c .before .before .before .before .before .before .args in
-    (search needs, rw (c .by-block .ensures) (block-more (a .t .now) (now .crc) (a .bytes .now) (now .i) (omega arith) ∙ now .inv .1))
+unfolding byBlocks
+loop-again c = let now = c .before .before .before .loop in let a = c .before .before .before .before .before .args in
+    (search needs, rw (c .by-block .ensures) (run-more 16 (block (a .t .now)) (byWords (a .t .now)) (now .crc) (a .bytes .now) (now .i) (lit≤ tt) (omega arith) ∙ now .inv .1))
 
-sub-by-bytes : tie.Need-sub-by-bytes Inv-loop μ-loop
-sub-by-bytes c = search needs
+sub-by-words : tie.Need-sub-by-words Inv-loop μ-loop
+sub-by-words c = search needs
 
-part-by-bytes-start : tie.Need-part-by-bytes-start Inv-loop μ-loop
-part-by-bytes-start c = search needs
+part-by-words-start : tie.Need-part-by-words-start Inv-loop μ-loop
+part-by-words-start c = search needs
 
-part-by-bytes-end : tie.Need-part-by-bytes-end Inv-loop μ-loop
-part-by-bytes-end c = search needs
+part-by-words-end : tie.Need-part-by-words-end Inv-loop μ-loop
+part-by-words-end c = search needs
 
-by-bytes-requires : tie.Need-by-bytes-requires Inv-loop μ-loop
-by-bytes-requires c κs = search needs
+by-words-requires : tie.Need-by-words-requires Inv-loop μ-loop
+by-words-requires c κs = search needs
 
 returns : tie.Need-returns Inv-loop μ-loop
-returns c = let now = c .before .before .before .loop in let a = c .before .before .before .before .before .before .args in let s = a .bytes .now in
-    c .by-bytes .ensures ∙ ap (byBytes (a .t .now) (now .crc)) (tail s (now .i))
-    ∙ sym (block-none (a .t .now) (now .crc) (drop (now .i) s) (omega (arith, length-drop (now .i) s))) ∙ now .inv .1
+unfolding byBlocks
+returns c = let now = c .before .before .before .loop in let a = c .before .before .before .before .before .args in let s = a .bytes .now in
+    c .by-words .ensures ∙ ap (byWords (a .t .now) (now .crc)) (tail s (now .i))
+    ∙ sym (run-none 16 (block (a .t .now)) (byWords (a .t .now)) (now .crc) (drop (now .i) s) (omega (arith, length-drop (now .i) s))) ∙ now .inv .1
 
 pub by-blocks-spec : {M : Type 1} → statement M
 by-blocks-spec =
@@ -74,8 +77,8 @@ by-blocks-spec =
     by-block-requires
     loop-less
     loop-again
-    sub-by-bytes
-    part-by-bytes-start
-    part-by-bytes-end
-    by-bytes-requires
+    sub-by-words
+    part-by-words-start
+    part-by-words-end
+    by-words-requires
     returns)

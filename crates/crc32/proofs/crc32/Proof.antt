@@ -4,7 +4,7 @@ use Prim.Native.Nat.{ℕ}
 use lib.Bits.{bitXor}
 use lib.Dec.{lit≤}
 use Rattle.crc32.specs.Crc32.{crc32Of}
-use Rattle.crc32.proofs.ByTable.{by-bytes}
+use Rattle.crc32.proofs.ByTable.{by-bytes, blocks-steps}
 use borrow.Author.Needs.{needs}
 use Rattle.crc32.proofs.crc32.Statement.{statement}
 use Rattle.crc32.proofs.crc32.Tie as tie
@@ -21,8 +21,8 @@ by-bytes-requires c κs = search needs
 tables-requires : tie.Need-tables-requires
 tables-requires c κs = search needs
 
-crc32-with-requires : tie.Need-crc32-with-requires
-crc32-with-requires c κs = search needs
+by-blocks-requires : tie.Need-by-blocks-requires
+by-blocks-requires c κs = search needs
 
 returns : tie.Need-returns
 unfolding crc32Of
@@ -32,7 +32,11 @@ returns c = ap (λ (x : ℕ). bitXor x 0xFFFFFFFF)
     (λ i. omega (arith, c .before .before .before .before .shared-slice-known .given i)))
 
 returns-2 : tie.Need-returns-2
-returns-2 c = c .crc32-with .ensures .1 (c .before .before .tables .ensures)
+unfolding crc32Of
+returns-2 c = ap (λ (x : ℕ). bitXor x 0xFFFFFFFF)
+    (c .by-blocks .ensures
+    ∙ blocks-steps (c .before .before .tables .ensures) 0xFFFFFFFF (c .before .before .before .before .before .args .bytes .now) (lit≤ tt)
+    (λ i. omega (arith, c .before .before .before .before .shared-slice-known .given i)))
 
 pub crc32-spec : {M : Type 1} → statement M
 crc32-spec =
@@ -42,6 +46,6 @@ crc32-spec =
     slice-aggregate-by-bytes
     by-bytes-requires
     tables-requires
-    crc32-with-requires
+    by-blocks-requires
     returns
     returns-2)

@@ -2,43 +2,31 @@ use Rattle.bank.specs.Number.{u32At}
 use borrow.Author.Needs.{needs}
 use Rattle.bank.proofs.number.u32_at.Statement.{statement}
 use Rattle.bank.proofs.number.u32_at.Tie as tie
-use Rattle.bank.proofs.number.u32_at.Reads as reads
-use Rattle.bank.proofs.number.u32_at.Lts as lts
-use Rattle.bank.proofs.number.u32_of.Reads as u32-of-reads
 
--- src/number.rt:37:12
 shared-slice-read-u32-of : tie.Need-shared-slice-read-u32-of
 shared-slice-read-u32-of c = search needs
 
--- src/number.rt:37:21
 add-u32-of : tie.Need-add-u32-of
 add-u32-of c = search needs
 
--- src/number.rt:37:19
 shared-slice-read-u32-of-2 : tie.Need-shared-slice-read-u32-of-2
 shared-slice-read-u32-of-2 c = search needs
 
--- src/number.rt:37:32
 add-u32-of-2 : tie.Need-add-u32-of-2
 add-u32-of-2 c = search needs
 
--- src/number.rt:37:30
 shared-slice-read-u32-of-3 : tie.Need-shared-slice-read-u32-of-3
 shared-slice-read-u32-of-3 c = search needs
 
--- src/number.rt:37:43
 add-u32-of-3 : tie.Need-add-u32-of-3
 add-u32-of-3 c = search needs
 
--- src/number.rt:37:41
 shared-slice-read-u32-of-4 : tie.Need-shared-slice-read-u32-of-4
 shared-slice-read-u32-of-4 c = search needs
 
--- src/number.rt:37:5
 u32-of-requires : tie.Need-u32-of-requires
 u32-of-requires c κs = search needs
 
--- src/number.rt:33:1
 returns : tie.Need-returns
 unfolding u32At
 returns c = c .u32-of .ensures
