@@ -2,9 +2,12 @@ pub mod RecordLaws
 pub mod RecordLists
 pub mod RecordSteps
 pub mod RecordWalk
+pub mod CheckedLaws
+pub mod FigureLaws
 pub mod PutLaws
 pub mod AppendLaws
 pub mod SoundLaws
+pub mod TableLaws
 pub mod SlotLaws
 pub mod LayoutLaws
 pub mod LoadLaws

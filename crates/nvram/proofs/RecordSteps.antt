@@ -1,9 +1,9 @@
 -- What the functions on records need, over variables.
 use Prim.Native.Nat.{ℕ, _+_, _-_, _≤_, _<_}
 use mathlib.Core.Path.{_≡_, refl, sym, ap, _∙_, subst}
-use mathlib.Core.List.{List, _++_}
+use mathlib.Core.List.{List, [], _++_}
 use mathlib.Core.Bool.{Bool, true, false, _&&_, cond}
-use mathlib.Core.Option.{Option, none, some}
+use mathlib.Core.Option.{none, some}
 use native.Mathlib.Omega.{arith}
 use lib.ListN.{length, getD, set, take, drop, drop-of-length-le, length-drop, length-set}
 use lib.Seq.{getD-drop, drop-drop}
@@ -15,15 +15,15 @@ use Rattle.bank.specs.declared.variable.VarType.{VarType}
 use Rattle.bank.specs.declared.variable.VarHeader.{VarHeader}
 use Rattle.bank.specs.Number.{u16At}
 use Rattle.bank.specs.Answer.{parsedHeader}
-use Rattle.bank.specs.Record.{Record, recordOf, nameAt, valueAt, sizeAt, varHeaderBytes, recordBytes, live, typeOf, deletedState}
+use Rattle.bank.specs.Record.{Record, recordOf, sizeOf, nameAt, valueAt, sizeAt, varHeaderBytes, recordBytes, live, typeOf, deletedState}
 use Rattle.bank.specs.WellFormed.{FineRecord}
-use Rattle.bank.proofs.WalkLaws.{by-test}
+use Rattle.bank.proofs.WalkLaws.{by-test, size-of}
 use Rattle.bank.proofs.LeafLaws.{header-long, name-is, value-is, crc-is}
 use Rattle.bank.proofs.RecordBack.{record-of-back}
 use Rattle.nvram.specs.declared.records.Next.{Next}
 use Rattle.nvram.specs.declared.records.Next.the-variants.{Onward, Stop}
 use Rattle.nvram.specs.Edit.{sameType, matches, deleted}
-use Rattle.nvram.specs.Part.{isRecord, prepend, viewRecords, given}
+use Rattle.nvram.specs.Part.{isRecord, prepend, viewRecords}
 use Rattle.nvram.specs.Records.{nextAfter, deletedAt}
 use Rattle.nvram.proofs.RecordLaws.{Strict, strict, is-record, view-next, view-end}
 
@@ -109,12 +109,7 @@ pub size-read : (s : List ℕ) → isRecord s ≡ true → (h : VarHeader) → h
     → n ≡ sizeAt s
 size-read s t h e n size = let l = strict s t .long in omega (arith, name-is s l h e, value-is s l h e)
 
--- the test of all records, from a place on
-given-prepend : (r : Record) (o : Option (List Record)) → given (prepend r o) ≡ given o
-unfolding prepend
-given-prepend r none = refl
-given-prepend r (some rs) = refl
-
+-- the records from a place on
 told-onward : (t : Bool) (n end : ℕ) → Onward end ≡ cond t (Onward n) Stop → (t ≡ true) × (n ≡ end)
 told-onward true n end e = (refl, cc)
 told-onward false n end e = let z : _≡_ {A = ℕ} 0 1 = cc in absurd (omega arith)
@@ -127,34 +122,37 @@ told-stop false n e = refl
 pub record Further (s : List ℕ) (at end : ℕ) : Type 0 where
   pub more : at < end
   pub within : end ≤ length s
-  pub same : given (viewRecords (drop at s)) ≡ given (viewRecords (drop end s))
+  pub long : 36 ≤ length (drop at s)
+  pub size : end - at ≡ sizeOf (recordOf (drop at s))
+  pub is : viewRecords (drop at s) ≡ prepend (recordOf (drop at s)) (viewRecords (drop end s))
 
 module _ (s : List ℕ) (at : ℕ) where
-  given-turn : at < length s → (t : Bool) → isRecord (drop at s) ≡ t
-      → given (viewRecords (drop at s)) ≡ given (cond t (prepend (recordOf (drop at s)) (viewRecords (drop (at + sizeAt (drop at s)) s))) none)
-  given-turn h t e =
-      rw (← e, ← drop-drop (sizeAt (drop at s)) at s) (ap given (view-next (drop at s) (omega (arith, length-drop at s))))
+  view-turn : at < length s → (t : Bool) → isRecord (drop at s) ≡ t
+      → viewRecords (drop at s) ≡ cond t (prepend (recordOf (drop at s)) (viewRecords (drop (at + sizeAt (drop at s)) s))) none
+  view-turn h t e = rw (← e, ← drop-drop (sizeAt (drop at s)) at s) (view-next (drop at s) (omega (arith, length-drop at s)))
 
   -- by what the code is told of that record
   module _ (h : at < length s) (r : Next) (e : r ≡ nextAfter at s) where
-    pub given-next : (end : ℕ) → r ≡ Onward end → Further s at end
+    pub view-onward : (end : ℕ) → r ≡ Onward end → Further s at end
     unfolding nextAfter
-    given-next end f =
+    view-onward end f =
         let o = told-onward (isRecord (drop at s)) (at + sizeAt (drop at s)) end (sym f ∙ e) in
         let k = strict (drop at s) (o .0) in
+        let n : sizeOf (recordOf (drop at s)) ≡ sizeAt (drop at s) = size-of (drop at s) (k .ends) (λ z. omega (arith, k .named)) in
         record {
           more = omega (arith, o .1);
           within = omega (arith, o .1, k .ends, length-drop at s);
-          same = given-turn h true (o .0) ∙ given-prepend (recordOf (drop at s)) (viewRecords (drop (at + sizeAt (drop at s)) s))
-              ∙ ap (λ (i : ℕ). given (viewRecords (drop i s))) (o .1);
+          long = k .long;
+          size = omega (arith, o .1, n);
+          is = view-turn h true (o .0) ∙ ap (λ (i : ℕ). prepend (recordOf (drop at s)) (viewRecords (drop i s))) (o .1);
         }
 
-    pub given-stop : r ≡ Stop → given (viewRecords (drop at s)) ≡ false
+    pub view-stop : r ≡ Stop → viewRecords (drop at s) ≡ none
     unfolding nextAfter
-    given-stop f = given-turn h false (told-stop (isRecord (drop at s)) (at + sizeAt (drop at s)) (sym f ∙ e))
+    view-stop f = view-turn h false (told-stop (isRecord (drop at s)) (at + sizeAt (drop at s)) (sym f ∙ e))
 
-  pub given-end : length s ≤ at → given (viewRecords (drop at s)) ≡ true
-  given-end h = ap (λ (l : List ℕ). given (viewRecords l)) (drop-of-length-le s h) ∙ ap given view-end
+  pub view-done : length s ≤ at → viewRecords (drop at s) ≡ some []
+  view-done h = ap viewRecords (drop-of-length-le s h) ∙ view-end
 
 -- the test of a match
 module _ (key : List ℕ) (typ : VarType) (s : List ℕ) where

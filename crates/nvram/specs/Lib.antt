@@ -2,6 +2,8 @@ pub mod Edit
 pub mod Part
 pub mod Records
 pub mod Book
+pub mod Figures
+pub mod Checked
 pub mod Opening
 pub mod Layout
 pub mod Ready

@@ -1,4 +1,5 @@
 // Records as they would be written, one after the other in a part of the work area.
+use super::figures::Figures;
 use bank::VarHeader;
 use bank::VarType;
 use bank::Variable;
@@ -11,13 +12,31 @@ ghost use Rattle.crc32.specs.Table.{IsTables};
 ghost use Rattle.bank.specs.Record.{Record, recordOf, sizeAt, recordBytes, recordsBytes};
 ghost use Rattle.bank.specs.Write.{over};
 ghost use Rattle.nvram.specs.Edit.{sameType, matches, removed, fresh, foundIn};
-ghost use Rattle.nvram.specs.Part.{isRecord, viewRecords, given};
+ghost use Rattle.nvram.specs.Part.{isRecord, viewRecords};
+ghost use Rattle.nvram.specs.Checked.{checked, unsound, recordsFigures};
 ghost use Rattle.nvram.specs.Records.{Holds, nextAfter, deletedAt, located};
 
 // A value's place and length, or nothing.
 pub(crate) enum Located {
     At(usize, usize),
     Nothing,
+}
+
+// What a check answers: whether all is sound, and what live records come to; nothing where it is not, or where none were to be counted.
+pub struct Checked {
+    pub sound: bool,
+    pub used: Figures,
+}
+
+impl Checked {
+    pub(crate) fn unsound() -> Checked
+        ensures { λ r. ⌜ r ≡ unsound ⌝ }
+    {
+        Checked {
+            sound: false,
+            used: Figures::none(),
+        }
+    }
 }
 
 // Where the record at a place ends, or that none stands there.
@@ -73,23 +92,25 @@ fn next_record(t: &[u32; 4096], s: &[u8], at: usize) -> Next
     }
 }
 
-// Whether s is made of such records, to its last byte.
-pub(crate) fn are_records(t: &[u32; 4096], s: &[u8]) -> bool
+// Whether s is made of such records, to its last byte; and what they come to, if that is to be counted.
+pub(crate) fn check_records(t: &[u32; 4096], s: &[u8], counting: bool) -> Checked
     requires { ⌜ IsTables 16 (now t) ⌝ }
-    ensures { λ r. ⌜ r ≡ given (viewRecords (now (s .entry))) ⌝ }
+    ensures { λ r. ⌜ r ≡ checked (recordsFigures counting) (viewRecords (now (s .entry))) ⌝ }
 {
+    let mut used = Figures::none();
     let mut at: usize = 0;
     while at < s.len() {
         match next_record(t, s, at) {
             Next::Onward(end) => {
+                used = used.count(counting, &s[at..], end - at);
                 at = end;
             }
             Next::Stop => {
-                return false;
+                return Checked::unsound();
             }
         }
     }
-    true
+    Checked { sound: true, used }
 }
 
 // Whether the record that begins s is live, of this key and of this type.

@@ -1,5 +1,8 @@
-// Refusal 6: whether a state and a work area are those of some book.
-use super::records::are_records;
+// Refusal 6: whether a state and a work area are those of some book. The check counts the active bank's live records as it passes them, for
+// a commit, which would else walk them again.
+use super::figures::Figures;
+use super::records::Checked;
+use super::records::check_records;
 use super::state::Entry;
 use super::state::Kind;
 use super::state::Nvram;
@@ -7,10 +10,13 @@ use bank::Head;
 use bank::StoreHeader;
 use bank::Variable;
 ghost use mathlib.Core.Path.{_≡_};
+ghost use mathlib.Core.Bool.{true};
 ghost use Prim.Native.Nat.{_*_, _≤_};
 ghost use lib.ListN.{length, drop};
 ghost use Rattle.crc32.specs.Table.{IsTables};
 ghost use Rattle.nvram.specs.Part.{given, isBlank, viewHead, viewSlot};
+ghost use Rattle.nvram.specs.Figures.{noFigures};
+ghost use Rattle.nvram.specs.Checked.{checked, unsound, slotFigures, figuresAt, activeFigures};
 ghost use Rattle.nvram.specs.Layout.{isEmpty, isFree, allFree, viewSlots, view};
 
 fn is_empty(kind: Kind) -> bool
@@ -67,88 +73,125 @@ fn is_blank(entry: Entry, part: &[u8]) -> bool
     buffers::all_ff(part)
 }
 
-// Whether a Valid entry and its part, whose header is known, are sound.
-fn is_bank(t: &[u32; 4096], header: StoreHeader, entry: Entry, part: &[u8]) -> bool
+// The check of a slot that is not Valid.
+fn check_blank(entry: Entry, part: &[u8]) -> Checked
+    ensures { λ r. ⌜ r ≡ record { sound = isBlank entry (now (part .entry)); used = noFigures } ⌝ }
+{
+    Checked {
+        sound: is_blank(entry, part),
+        used: Figures::none(),
+    }
+}
+
+// Of a Valid entry and its part, whose header is known.
+fn check_bank(
+    t: &[u32; 4096],
+    header: StoreHeader,
+    entry: Entry,
+    part: &[u8],
+    counting: bool,
+) -> Checked
     requires { ⌜ (length (now part) ≡ 131072) × IsTables 16 (now t) ⌝ }
-    ensures { λ r. ⌜ r ≡ given (viewHead (Head.Good header) entry (now (part .entry))) ⌝ }
+    ensures { λ r. ⌜ r ≡ checked (slotFigures counting) (viewHead (Head.Good header) entry (now (part .entry))) ⌝ }
 {
     if part[15] != 0 {
-        return false;
+        return Checked::unsound();
     }
     if entry.total < 24 {
-        return false;
+        return Checked::unsound();
     }
     if 131072 < entry.total {
-        return false;
+        return Checked::unsound();
     }
     if entry.usable < 24 {
-        return false;
+        return Checked::unsound();
     }
     if header.size < entry.usable {
-        return false;
+        return Checked::unsound();
     }
     let total = entry.total as usize;
     if !buffers::all_ff(&part[total..]) {
-        return false;
+        return Checked::unsound();
     }
-    are_records(t, &part[Variable::STORE_HEADER_SIZE..total])
+    check_records(t, &part[Variable::STORE_HEADER_SIZE..total], counting)
 }
 
-// Whether an entry and its part are sound.
-fn slot_sound(t: &[u32; 4096], entry: Entry, part: &[u8]) -> bool
+// Of an entry and its part.
+fn check_slot(t: &[u32; 4096], entry: Entry, part: &[u8], counting: bool) -> Checked
     requires { ⌜ (length (now part) ≡ 131072) × IsTables 16 (now t) ⌝ }
-    ensures { λ r. ⌜ r ≡ given (viewSlot entry (now (part .entry))) ⌝ }
+    ensures { λ r. ⌜ r ≡ checked (slotFigures counting) (viewSlot entry (now (part .entry))) ⌝ }
 {
     let kind = entry.kind;
     match kind {
-        Kind::Empty => is_blank(entry, part),
-        Kind::Invalid => is_blank(entry, part),
+        Kind::Empty => check_blank(entry, part),
+        Kind::Invalid => check_blank(entry, part),
         Kind::Valid => match StoreHeader::parse(part) {
-            Head::Good(header) => is_bank(t, header, entry, part),
-            Head::Signature => false,
-            Head::Version => false,
-            Head::Size => false,
+            Head::Good(header) => check_bank(t, header, entry, part, counting),
+            Head::Signature => Checked::unsound(),
+            Head::Version => Checked::unsound(),
+            Head::Size => Checked::unsound(),
         },
     }
 }
 
-// Whether the first n entries are sound with their parts, and the others free.
-fn slots_sound(state: Nvram, work: &[u8]) -> bool
+// Of the first n entries and their parts, and of the others, which are to be free. It counts in the active bank alone.
+fn check_slots(state: Nvram, work: &[u8], counting: bool) -> Checked
     requires { ⌜ (state .n ≤ 16) × (state .n * 131072 ≤ length (now work)) ⌝ }
-    ensures { λ r. ⌜ r ≡ given (viewSlots (state .n) (state .banks) (now (work .entry))) ⌝ }
+    ensures { λ r. ⌜ r ≡ checked (figuresAt counting (state .active)) (viewSlots (state .n) (state .banks) (now (work .entry))) ⌝ }
 {
     let t = crc32::tables();
     let banks = state.banks;
     let n = state.n as usize;
+    let active = state.active as usize;
+    let mut used = Figures::none();
     let mut i: usize = 0;
     while i < n {
         let entry = banks[i];
         let a = i * Nvram::PART;
         let e = a + Nvram::PART;
-        if !slot_sound(&t, entry, &work[a..e]) {
-            return false;
+        let here = check_slot(&t, entry, &work[a..e], counting & (i == active));
+        if !here.sound {
+            return Checked::unsound();
         }
+        used = here.used.or_else(i == active, used);
         i += 1;
     }
-    rest_free(state)
+    if !rest_free(state) {
+        return Checked::unsound();
+    }
+    Checked { sound: true, used }
+}
+
+// Of the whole.
+fn check_all(state: Nvram, work: &[u8], counting: bool) -> Checked
+    ensures { λ r. ⌜ r ≡ checked (activeFigures counting) (view state (now (work .entry))) ⌝ }
+{
+    let n = state.n as usize;
+    if n < 1 {
+        return Checked::unsound();
+    }
+    if 16 < n {
+        return Checked::unsound();
+    }
+    if state.n <= state.active {
+        return Checked::unsound();
+    }
+    if work.len() < n * Nvram::PART {
+        return Checked::unsound();
+    }
+    check_slots(state, work, counting)
+}
+
+// Whether state and work area are sound, and what the active bank's live records come to.
+pub fn check(state: Nvram, work: &[u8]) -> Checked
+    ensures { λ r. ⌜ r ≡ checked (activeFigures true) (view state (now (work .entry))) ⌝ }
+{
+    check_all(state, work, true)
 }
 
 // Whether state and work area are sound.
 pub fn is_sound(state: Nvram, work: &[u8]) -> bool
     ensures { λ r. ⌜ r ≡ given (view state (now (work .entry))) ⌝ }
 {
-    let n = state.n as usize;
-    if n < 1 {
-        return false;
-    }
-    if 16 < n {
-        return false;
-    }
-    if state.n <= state.active {
-        return false;
-    }
-    if work.len() < n * Nvram::PART {
-        return false;
-    }
-    slots_sound(state, work)
+    check_all(state, work, false).sound
 }

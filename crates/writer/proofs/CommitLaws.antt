@@ -17,11 +17,15 @@ use Rattle.bank.specs.Header.{readHeader, headerBytes}
 use Rattle.bank.specs.Bank.{Bank, Slot, empty, invalid, valid, bankSize, partOf}
 use Rattle.bank.specs.Figures.{total, systemUsed, commonUsed}
 use Rattle.bank.proofs.HeaderLaws.{header-back}
+use Rattle.nvram.specs.declared.figures.Figures.{Figures}
+use Rattle.nvram.specs.declared.records.Checked.{Checked}
 use Rattle.nvram.specs.declared.state.Kind.the-variants.{Valid}
 use Rattle.nvram.specs.declared.state.Entry.{Entry}
 use Rattle.nvram.specs.declared.state.Nvram.{Nvram}
 use Rattle.nvram.specs.Part.{partSize, entryOf}
 use Rattle.nvram.specs.Book.{Book, activeSlot}
+use Rattle.nvram.specs.Figures.{figuresOf}
+use Rattle.nvram.specs.Checked.{checked, recordsFigures, slotFigures, activeFigures}
 use Rattle.nvram.specs.Ready.{activeEntry}
 use Rattle.nvram.specs.Commit.{Judged, refuse, inPlace, move, judge, output}
 use Rattle.nvram.specs.Call.{commit, committed, stay, hand, commitAs, commitIn, commitTo, step}
@@ -31,11 +35,16 @@ use Rattle.nvram.proofs.CallLaws.{does}
 use Rattle.nvram.proofs.ActiveLaws.{Sound, book, viewed, state-is, work-is, fine, active-is, n-is, entry-is, does-refuse, bank, bank-is, bank-fine, total-is, usable-is}
 use Rattle.nvram.proofs.JudgeLaws.{in-place-fits}
 use Rattle.writer.specs.declared.commit.Applied.{Applied}
-use Rattle.writer.specs.declared.figures.Figures.{Figures}
-use Rattle.writer.specs.Figures.{figuresOf}
 use Rattle.writer.specs.Answer.{applied}
-use Rattle.writer.specs.Active.{Active, MoveDue, Commits}
+use Rattle.writer.specs.Active.{Active, MoveDue, Used, Commits}
 use Rattle.writer.proofs.PlaceLaws.{after, part-here, bank-out}
+
+-- what the check for refusal 6 told
+-- the figures that the check answers
+pub checked-used : (r : Checked) (o : Option Book) → r ≡ checked (activeFigures true) o → (b : Book) (k : Bank) → o ≡ some b
+    → activeSlot b ≡ valid k → r .used ≡ figuresOf (k .records)
+unfolding checked activeFigures slotFigures recordsFigures
+checked-used r o e b k p q = ap (λ (x : Checked). x .used) (e ∙ ap (checked (activeFigures true)) p) ∙ ap (slotFigures true) q
 
 abbrev pub faulty : Head → Bool
 faulty (Good h) = false
@@ -113,11 +122,12 @@ module _ {s : Nvram} {w : List ℕ} {h : StoreHeader} (a : Known s w h) where
   size-high = omega (arith, size-is, bank-fine sound (a .active .kind) .0 .header-fine .size-high)
 
   -- what the code judges is the active bank
-  pub judged : (f : Figures) (t u : ℕ) (j : Judged) → f ≡ figuresOf (here .records) → t ≡ activeEntry s .total → u ≡ activeEntry s .usable
+  pub judged : (f : Figures) (t u : ℕ) (j : Judged) → Used s w f → t ≡ activeEntry s .total → u ≡ activeEntry s .usable
       → ((k : Bank) → h ≡ k .header → f .system ≡ systemUsed k → f .common ≡ commonUsed k → t ≡ total k → u ≡ k .usable → j ≡ judge k)
       → j ≡ judge here
   unfolding systemUsed commonUsed total figuresOf
-  judged f t u j e p q k =
+  judged f t u j d p q k =
+      let e = d b here (viewed sound) (bank-is sound (a .active .kind)) in
       k here header-is (ap (λ (x : Figures). x .system) e) (ap (λ (x : Figures). x .common) e) (p ∙ total-is sound (a .active .kind)) (q ∙ usable-is sound (a .active .kind))
 
   pub due : move ≡ judge here → MoveDue s w

@@ -1,4 +1,3 @@
-pub mod FigureLaws
 pub mod SpanLaws
 pub mod TurnLaws
 pub mod MoveLaws

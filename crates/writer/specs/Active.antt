@@ -9,10 +9,12 @@ use Rattle.bank.specs.declared.header.StoreHeader.{StoreHeader}
 use Rattle.bank.specs.declared.header.Head.the-variants.{Good}
 use Rattle.bank.specs.Header.{readHeader}
 use Rattle.bank.specs.Bank.{Bank, valid}
+use Rattle.nvram.specs.declared.figures.Figures.{Figures}
 use Rattle.nvram.specs.declared.state.Kind.the-variants.{Valid}
 use Rattle.nvram.specs.declared.state.Nvram.{Nvram}
 use Rattle.nvram.specs.Part.{given}
 use Rattle.nvram.specs.Book.{Book, activeSlot}
+use Rattle.nvram.specs.Figures.{figuresOf}
 use Rattle.nvram.specs.Layout.{view}
 use Rattle.nvram.specs.Ready.{activeEntry}
 use Rattle.nvram.specs.Commit.{move, judge}
@@ -30,6 +32,10 @@ pub record Active (s : Nvram) (w : List ℕ) (h : StoreHeader) : Type 0 where
 -- the active bank's commit is to move it
 abbrev pub MoveDue : Nvram → List ℕ → Type 0
 MoveDue s w = (b : Book) (k : Bank) → view s w ≡ some b → activeSlot b ≡ valid k → judge k ≡ move
+
+-- what the active bank's live records come to, by section
+abbrev pub Used : Nvram → List ℕ → Figures → Type 0
+Used s w f = (b : Book) (k : Bank) → view s w ≡ some b → activeSlot b ≡ valid k → f ≡ figuresOf (k .records)
 
 -- a commit of s and w with the output o answers r, and leaves the work area w′ and the output o′
 abbrev pub Commits : Nvram → List ℕ → List ℕ → Applied → List ℕ → List ℕ → Type 0

@@ -1,4 +1,3 @@
-pub mod Figures
 pub mod Move
 pub mod Answer
 pub mod Active

@@ -1,14 +1,13 @@
 // The commit: 01, 'A commit, from the entry down'.
 use super::carry::move_bank;
-use super::figures::Figures;
-use super::figures::used;
 use bank::Head;
 use bank::StoreHeader;
 use bank::Variable;
 use nvram::Entry;
+use nvram::Figures;
 use nvram::Kind;
 use nvram::Nvram;
-use nvram::is_sound;
+use nvram::check;
 ghost use mathlib.Core.Path.{_≡_};
 ghost use mathlib.Core.List.{_++_};
 ghost use Prim.Native.Nat.{_+_, _*_, _≤_, _<_};
@@ -21,7 +20,7 @@ ghost use Rattle.nvram.specs.Call.{committed};
 ghost use Rattle.nvram.specs.Part.{entryOf};
 ghost use Rattle.nvram.specs.Contract.{tallied};
 ghost use Rattle.writer.specs.Answer.{applied, verdict, asked, movedState};
-ghost use Rattle.writer.specs.Active.{Active, MoveDue, Commits};
+ghost use Rattle.writer.specs.Active.{Active, MoveDue, Used, Commits};
 
 // Nothing is to be erased, or the bank at an offset.
 pub enum Erase {
@@ -58,13 +57,13 @@ fn refused(state: Nvram, number: u32, erase: Erase) -> Applied
 }
 
 // By the active bank's header, figures and entry.
-fn judge(header: StoreHeader, sums: Figures, entry: Entry) -> Judged
-    ensures { λ r. ⌜ ((k : Bank) → header ≡ k .header → sums .system ≡ systemUsed k → sums .common ≡ commonUsed k → entry .total ≡ totalOf k → entry .usable ≡ k .usable → verdict r ≡ judgeOf k) ⌝ }
+fn judge(header: StoreHeader, used: Figures, entry: Entry) -> Judged
+    ensures { λ r. ⌜ ((k : Bank) → header ≡ k .header → used .system ≡ systemUsed k → used .common ≡ commonUsed k → entry .total ≡ totalOf k → entry .usable ≡ k .usable → verdict r ≡ judgeOf k) ⌝ }
 {
-    if (header.system_size as usize) < sums.system {
+    if (header.system_size as usize) < used.system {
         return Judged::Refuse(9);
     }
-    if (header.common_size as usize) < sums.common {
+    if (header.common_size as usize) < used.common {
         return Judged::Refuse(10);
     }
     if entry.total <= entry.usable {
@@ -173,8 +172,14 @@ fn move_on(
 }
 
 // A commit of the active bank, which is Valid and begins with this header.
-fn commit_active(state: Nvram, work: &mut [u8], output: &mut [u8], header: StoreHeader) -> Applied
-    requires { ⌜ Active state (now work) header × (65536 ≤ length (now output)) ⌝ }
+fn commit_active(
+    state: Nvram,
+    work: &mut [u8],
+    output: &mut [u8],
+    header: StoreHeader,
+    used: Figures,
+) -> Applied
+    requires { ⌜ Active state (now work) header × Used state (now work) used × (65536 ≤ length (now output)) ⌝ }
     ensures { λ r. ⌜ Commits state (now (work .entry)) (now (output .entry)) r (now (work .exit)) (now (output .exit)) ⌝ }
 {
     let i = state.active as usize;
@@ -182,8 +187,7 @@ fn commit_active(state: Nvram, work: &mut [u8], output: &mut [u8], header: Store
     let part = i * Nvram::PART;
     let from = part + Variable::STORE_HEADER_SIZE;
     let to = part + entry.total as usize;
-    let sums = used(work, from, to);
-    match judge(header, sums, entry) {
+    match judge(header, used, entry) {
         Judged::Refuse(number) => refused(state, number, Erase::Nothing),
         Judged::InPlace => write(state, work, output, header.size as usize, Erase::Nothing),
         Judged::Move => move_on(state, work, output, from, to, header),
@@ -194,12 +198,14 @@ fn commit_active(state: Nvram, work: &mut [u8], output: &mut [u8], header: Store
 pub fn apply(state: Nvram, work: &mut [u8], output: &mut [u8]) -> Applied
     ensures { λ r. ⌜ Commits state (now (work .entry)) (now (output .entry)) r (now (work .exit)) (now (output .exit)) ⌝ }
 {
-    if !is_sound(state, work) {
+    let checked = check(state, work);
+    if !checked.sound {
         return refused(state, 6, Erase::Nothing);
     }
     if output.len() < Nvram::BANK {
         return refused(state, 5, Erase::Nothing);
     }
+    let used = checked.used;
     let i = state.active as usize;
     let entry = state.banks[i];
     let kind = entry.kind;
@@ -209,7 +215,7 @@ pub fn apply(state: Nvram, work: &mut [u8], output: &mut [u8]) -> Applied
         Kind::Valid => {
             let part = i * Nvram::PART;
             match StoreHeader::parse(&work[part..]) {
-                Head::Good(header) => commit_active(state, work, output, header),
+                Head::Good(header) => commit_active(state, work, output, header, used),
                 Head::Signature => refused(state, 6, Erase::Nothing),
                 Head::Version => refused(state, 6, Erase::Nothing),
                 Head::Size => refused(state, 6, Erase::Nothing),

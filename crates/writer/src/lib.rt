@@ -1,7 +1,6 @@
 // What is written to the flash: the commit and the whole image.
 mod carry;
 mod commit;
-mod figures;
 mod image;
 
 pub use commit::Applied;

@@ -6,19 +6,20 @@ use borrow.Author.Tests.{not-true, not-false}
 use Rattle.buffers.proofs.Walk.{tail}
 use Rattle.bank.specs.Header.{readHeader}
 use Rattle.nvram.specs.Call.{commit}
+use Rattle.nvram.proofs.CheckedLaws.{checked-sound}
 use Rattle.nvram.proofs.CallLaws.{does-6, empty-valid, invalid-valid}
 use Rattle.nvram.proofs.ActiveLaws.{Sound, active-in, part-within}
-use Rattle.writer.proofs.CommitLaws.{faulty, no-fault, does-5, does-7, quiet}
+use Rattle.writer.proofs.CommitLaws.{checked-used, faulty, no-fault, does-5, does-7, quiet}
 use borrow.Author.Needs.{needs}
 use Rattle.writer.proofs.commit.apply.Statement.{statement}
 use Rattle.writer.proofs.commit.apply.Tie as tie
 
-at-hand : (c : tie.Else1) → Sound (c .before .before .before .before .before .args .t1) (c .before .before .before .before .before .args .work .now)
+at-hand : (c : tie.Else1) → Sound (c .before .before .before .before .before .before .args .t1) (c .before .before .before .before .before .before .args .work .now)
 at-hand c =
-    record { bytes = λ i. omega (arith, c .before .before .before .before .slice-known .given i); long = simp length-map at (c .before .before .before .before .before .good .0 .1 .1 .1 .1 .1 .0 .1 .0 .1); ok = sym (c .before .is-sound .ensures) ∙ not-false _ (c .if1 .left) }
+    record { bytes = λ i. omega (arith, c .before .before .before .before .before .slice-known .given i); long = simp length-map at (c .before .before .before .before .before .before .good .0 .1 .1 .1 .1 .1 .0 .1 .0 .1); ok = sym (checked-sound _ _ _ (c .before .before .check .ensures)) ∙ not-false _ (c .if1 .left) }
 
-is-sound-requires : tie.Need-is-sound-requires
-is-sound-requires c κs = search needs
+check-requires : tie.Need-check-requires
+check-requires c κs = search needs
 
 refused-requires : tie.Need-refused-requires
 refused-requires c κs = search needs
@@ -27,8 +28,8 @@ same-length : tie.Need-same-length
 same-length c = search needs
 
 returns : tie.Need-returns
-returns c = let a = c .before .before .before .before .before .before .args in
-    quiet (a .output .now) (c .refused .result) none 6 (c .refused .ensures) (does-6 (commit _) (a .t1) (a .work .now) (sym (c .before .before .is-sound .ensures) ∙ not-true _ (c .before .if1 .taken)))
+returns c = let a = c .before .before .before .before .before .before .before .args in
+    quiet (a .output .now) (c .refused .result) none 6 (c .refused .ensures) (does-6 (commit _) (a .t1) (a .work .now) (sym (checked-sound _ _ _ (c .before .before .before .check .ensures)) ∙ not-true _ (c .before .if1 .taken)))
 
 refused-requires-2 : tie.Need-refused-requires-2
 refused-requires-2 c κs = search needs
@@ -37,7 +38,7 @@ same-length-2 : tie.Need-same-length-2
 same-length-2 c = search needs
 
 returns-2 : tie.Need-returns-2
-returns-2 c = let a = c .before .before .before .before .before .before .before .args in quiet (a .output .now) (c .refused2 .result) none 5 (c .refused2 .ensures) (does-5 (at-hand (c .before .before)) _ (c .before .if2 .taken))
+returns-2 c = let a = c .before .before .before .before .before .before .before .before .args in quiet (a .output .now) (c .refused2 .result) none 5 (c .refused2 .ensures) (does-5 (at-hand (c .before .before)) _ (c .before .if2 .taken))
 
 cast-i : tie.Need-cast-i
 cast-i c = search needs
@@ -46,7 +47,7 @@ mul-entry : tie.Need-mul-entry
 mul-entry c = search needs
 
 element-copy-out-entry : tie.Need-element-copy-out-entry
-element-copy-out-entry c = active-in (at-hand (c .before))
+element-copy-out-entry c = active-in (at-hand (c .before .before))
 
 enum-told : tie.Need-enum-told
 enum-told c = search needs
@@ -67,10 +68,10 @@ mul-part : tie.Need-mul-part
 mul-part c = search needs
 
 sub-parse : tie.Need-sub-parse
-sub-parse c = omega (arith, part-within (at-hand (c .before .before .before .before)))
+sub-parse c = omega (arith, part-within (at-hand (c .before .before .before .before .before)))
 
 part-parse-start : tie.Need-part-parse-start
-part-parse-start c = omega (arith, part-within (at-hand (c .before .before .before .before .before)))
+part-parse-start c = omega (arith, part-within (at-hand (c .before .before .before .before .before .before)))
 
 part-parse-end : tie.Need-part-parse-end
 part-parse-end c = search needs
@@ -82,8 +83,8 @@ enum-known-header : tie.Need-enum-known-header
 enum-known-header c = search needs
 
 commit-active-requires : tie.Need-commit-active-requires
-commit-active-requires c κs = let a = c .before .before .before .before .before .before .before .before .before .before .before .before .before .before .before .before .before .args in
-    (record { sound = at-hand (c .before .before .before .before .before .before .before .before .before .before .before .before) .ok; kind = c .before .before .before .before .before .before .before .before .enum-told3 .given .1; head = ap readHeader (sym (tail (a .work .now) _)) ∙ sym (c .before .before .before .before .before .parse .ensures) ∙ c .before .before .before .header .given .1 }, c .before .before .before .before .before .before .before .before .before .before .before .if2 .left)
+commit-active-requires c κs = let a = c .before .before .before .before .before .before .before .before .before .before .before .before .before .before .before .before .before .before .before .args in
+    (record { sound = at-hand (c .before .before .before .before .before .before .before .before .before .before .before .before .before) .ok; kind = c .before .before .before .before .before .before .before .before .enum-told3 .given .1; head = ap readHeader (sym (tail (a .work .now) _)) ∙ sym (c .before .before .before .before .before .parse .ensures) ∙ c .before .before .before .header .given .1 }, checked-used _ _ (c .before .before .before .before .before .before .before .before .before .before .before .before .before .before .before .check .ensures), c .before .before .before .before .before .before .before .before .before .before .before .before .if2 .left)
 
 enum-told-4 : tie.Need-enum-told-4
 enum-told-4 c = search needs
@@ -107,13 +108,13 @@ same-length-3 : tie.Need-same-length-3
 same-length-3 c = search needs
 
 returns-3 : tie.Need-returns-3
-returns-3 c = let a = c .before .before .before .before .before .before .before .before .before .before .args in quiet (a .output .now) (c .refused3 .result) none 7 (c .refused3 .ensures) (does-7 (at-hand (c .before .before .before .before .before)) _ (c .before .before .before .before .if2 .left) (empty-valid _ (c .before .enum-told .given .1)))
+returns-3 c = let a = c .before .before .before .before .before .before .before .before .before .before .before .before .args in quiet (a .output .now) (c .refused3 .result) none 7 (c .refused3 .ensures) (does-7 (at-hand (c .before .before .before .before .before .before)) _ (c .before .before .before .before .before .if2 .left) (empty-valid _ (c .before .enum-told .given .1)))
 
 same-length-4 : tie.Need-same-length-4
 same-length-4 c = search needs
 
 returns-4 : tie.Need-returns-4
-returns-4 c = let a = c .before .before .before .before .before .before .before .before .before .before .args in quiet (a .output .now) (c .refused4 .result) none 7 (c .refused4 .ensures) (does-7 (at-hand (c .before .before .before .before .before)) _ (c .before .before .before .before .if2 .left) (invalid-valid _ (c .before .enum-told2 .given .1)))
+returns-4 c = let a = c .before .before .before .before .before .before .before .before .before .before .before .before .args in quiet (a .output .now) (c .refused4 .result) none 7 (c .refused4 .ensures) (does-7 (at-hand (c .before .before .before .before .before .before)) _ (c .before .before .before .before .before .if2 .left) (invalid-valid _ (c .before .enum-told2 .given .1)))
 
 same-length-5 : tie.Need-same-length-5
 same-length-5 c = search needs
@@ -128,25 +129,25 @@ same-length-7 : tie.Need-same-length-7
 same-length-7 c = search needs
 
 returns-6 : tie.Need-returns-6
-returns-6 c = absurd (no-fault (at-hand (c .before .before .before .before .before .before .before .before .before .before)) (c .before .before .before .before .before .before .enum-told3 .given .1) _ (c .before .before .before .parse .ensures) (ap faulty (c .before .enum-told4 .given .1)))
+returns-6 c = absurd (no-fault (at-hand (c .before .before .before .before .before .before .before .before .before .before .before)) (c .before .before .before .before .before .before .enum-told3 .given .1) _ (c .before .before .before .parse .ensures) (ap faulty (c .before .enum-told4 .given .1)))
 
 same-length-8 : tie.Need-same-length-8
 same-length-8 c = search needs
 
 returns-7 : tie.Need-returns-7
-returns-7 c = absurd (no-fault (at-hand (c .before .before .before .before .before .before .before .before .before .before)) (c .before .before .before .before .before .before .enum-told3 .given .1) _ (c .before .before .before .parse .ensures) (ap faulty (c .before .enum-told5 .given .1)))
+returns-7 c = absurd (no-fault (at-hand (c .before .before .before .before .before .before .before .before .before .before .before)) (c .before .before .before .before .before .before .enum-told3 .given .1) _ (c .before .before .before .parse .ensures) (ap faulty (c .before .enum-told5 .given .1)))
 
 same-length-9 : tie.Need-same-length-9
 same-length-9 c = search needs
 
 returns-8 : tie.Need-returns-8
-returns-8 c = absurd (no-fault (at-hand (c .before .before .before .before .before .before .before .before .before .before)) (c .before .before .before .before .before .before .enum-told3 .given .1) _ (c .before .before .before .parse .ensures) (ap faulty (c .before .enum-told6 .given .1)))
+returns-8 c = absurd (no-fault (at-hand (c .before .before .before .before .before .before .before .before .before .before .before)) (c .before .before .before .before .before .before .enum-told3 .given .1) _ (c .before .before .before .parse .ensures) (ap faulty (c .before .enum-told6 .given .1)))
 
 pub apply-spec : {M : Type 1} → statement M
 apply-spec =
     tie.close
     (tie.spec
-    is-sound-requires
+    check-requires
     refused-requires
     same-length
     returns

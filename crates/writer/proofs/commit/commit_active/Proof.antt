@@ -3,7 +3,7 @@ use mathlib.Core.Option.{none}
 use native.Mathlib.Omega.{arith}
 use lib.ListN.{length-map}
 use Rattle.nvram.specs.Commit.{judge}
-use Rattle.nvram.proofs.ActiveLaws.{active-in, part-within, holds}
+use Rattle.nvram.proofs.ActiveLaws.{active-in, part-within}
 use Rattle.writer.specs.Answer.{verdict}
 use Rattle.writer.proofs.CommitLaws.{Known, sound, here, size-high, judged, due, refuses, stays, quiet, wrote}
 use borrow.Author.Needs.{needs}
@@ -14,9 +14,8 @@ at-hand : (c : tie.After-slice-known2) → Known (c .before .before .args .t1) (
 at-hand c =
     record { bytes = λ i. omega (arith, c .before .slice-known .given i); long = simp length-map at (c .before .before .good .0 .1 .1 .1 .1 .1 .0 .1 .0 .1); active = c .before .before .pre .0 }
 
-decided : (c : tie.After-judge) → verdict (c .judge .result) ≡ judge (here (at-hand (c .before .before .before .before .before)))
-decided c =
-    let k = at-hand (c .before .before .before .before .before) in judged k (c .before .used .result) _ _ _ (c .before .used .ensures _ (holds (sound k) (k .active .kind))) refl refl (c .judge .ensures)
+decided : (c : tie.After-judge) → verdict (c .judge .result) ≡ judge (here (at-hand (c .before .before .before)))
+decided c = judged (at-hand (c .before .before .before)) _ _ _ _ (c .before .before .before .before .before .pre .1) refl refl (c .judge .ensures)
 
 cast-i : tie.Need-cast-i
 cast-i c = search needs
@@ -39,9 +38,6 @@ cast-to c = search needs
 add-to : tie.Need-add-to
 add-to c = search needs
 
-used-requires : tie.Need-used-requires
-used-requires c κs = let k = at-hand (c .before .before .before) in (here k .records, holds (sound k) (k .active .kind))
-
 judge-requires : tie.Need-judge-requires
 judge-requires c κs = search needs
 
@@ -58,36 +54,33 @@ cast-write : tie.Need-cast-write
 cast-write c = search needs
 
 write-requires : tie.Need-write-requires
-write-requires c κs = let k = at-hand (c .before .before .before .before .before .before .before .before .before .before) in (active-in (sound k), size-high k, part-within (sound k), c .before .before .before .before .before .before .before .before .before .before .before .before .pre .1)
+write-requires c κs = let k = at-hand (c .before .before .before .before .before .before .before .before) in (active-in (sound k), size-high k, part-within (sound k), c .before .before .before .before .before .before .before .before .before .before .pre .2)
 
 enum-told-2 : tie.Need-enum-told-2
 enum-told-2 c = search needs
 
 move-on-requires : tie.Need-move-on-requires
-move-on-requires c κs = let k = at-hand (c .before .before .before .before .before .before .before .before .before) in (k .active, due k (sym (ap verdict (c .before .before .enum-told2 .given .1)) ∙ decided (c .before .before .before .before)), refl, refl, c .before .before .before .before .before .before .before .before .before .before .before .pre .1)
+move-on-requires c κs = let k = at-hand (c .before .before .before .before .before .before .before) in (k .active, due k (sym (ap verdict (c .before .before .enum-told2 .given .1)) ∙ decided (c .before .before .before .before)), refl, refl, c .before .before .before .before .before .before .before .before .before .pre .2)
+
+returns : tie.Need-returns
+returns c = let k = at-hand (c .before .before .before .before .before .before .before) in let a = c .before .before .before .before .before .before .before .before .before .args in
+    quiet (a .output .now) (c .refused .result) none _ (c .refused .ensures) (refuses k _ (c .before .before .before .before .before .before .before .before .before .pre .2) _ (sym (ap verdict (c .before .before .number .given .1)) ∙ decided (c .before .before .before .before)))
 
 same-length : tie.Need-same-length
 same-length c = search needs
 
-returns : tie.Need-returns
-returns c = let k = at-hand (c .before .before .before .before .before .before .before .before .before) in let a = c .before .before .before .before .before .before .before .before .before .before .before .args in
-    quiet (a .output .now) (c .refused .result) none _ (c .refused .ensures) (refuses k _ (c .before .before .before .before .before .before .before .before .before .before .before .pre .1) _ (sym (ap verdict (c .before .before .number .given .1)) ∙ decided (c .before .before .before .before)))
-
 same-length-2 : tie.Need-same-length-2
 same-length-2 c = search needs
+
+returns-2 : tie.Need-returns-2
+returns-2 c = let k = at-hand (c .before .before .before .before .before .before .before .before .before .before .before) in let a = c .before .before .before .before .before .before .before .before .before .before .before .before .before .args in
+    wrote (a .output .now) (c .before .before .write .result) none _ (a .header .size) (size-high k) (part-within (sound k)) (c .before .before .write .ensures) (stays k _ (c .before .before .before .before .before .before .before .before .before .before .before .before .before .pre .2) (sym (ap verdict (c .before .before .before .before .before .before .enum-told .given .1)) ∙ decided (c .before .before .before .before .before .before .before .before)))
 
 same-length-3 : tie.Need-same-length-3
 same-length-3 c = search needs
 
-returns-2 : tie.Need-returns-2
-returns-2 c = let k = at-hand (c .before .before .before .before .before .before .before .before .before .before .before .before .before) in let a = c .before .before .before .before .before .before .before .before .before .before .before .before .before .before .before .args in
-    wrote (a .output .now) (c .before .before .write .result) none _ (a .header .size) (size-high k) (part-within (sound k)) (c .before .before .write .ensures) (stays k _ (c .before .before .before .before .before .before .before .before .before .before .before .before .before .before .before .pre .1) (sym (ap verdict (c .before .before .before .before .before .before .enum-told .given .1)) ∙ decided (c .before .before .before .before .before .before .before .before)))
-
 same-length-4 : tie.Need-same-length-4
 same-length-4 c = search needs
-
-same-length-5 : tie.Need-same-length-5
-same-length-5 c = search needs
 
 returns-3 : tie.Need-returns-3
 returns-3 c = search needs
@@ -103,7 +96,6 @@ commit-active-spec =
     add-from
     cast-to
     add-to
-    used-requires
     judge-requires
     enum-known-number
     refused-requires
@@ -112,11 +104,10 @@ commit-active-spec =
     write-requires
     enum-told-2
     move-on-requires
-    same-length
     returns
+    same-length
     same-length-2
-    same-length-3
     returns-2
+    same-length-3
     same-length-4
-    same-length-5
     returns-3)

@@ -4,10 +4,13 @@ use mathlib.Core.Bool.{cond}
 use mathlib.Core.List.{List}
 use Rattle.bank.specs.Record.{Record, sizes, systemGuid, commonGuid}
 use Rattle.bank.specs.Figures.{select, liveOf}
-use Rattle.writer.specs.declared.figures.Figures.{Figures}
+use Rattle.nvram.specs.declared.figures.Figures.{Figures}
 
 unfoldable pub figuresOf : List Record → Figures
 figuresOf rs = record { system = sizes (select (liveOf systemGuid) rs); common = sizes (select (liveOf commonGuid) rs) }
+
+abbrev pub noFigures : Figures
+noFigures = record { system = 0; common = 0 }
 
 -- with one record of n bytes more
 unfoldable pub counted : Figures → Record → ℕ → Figures

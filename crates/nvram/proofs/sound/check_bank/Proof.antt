@@ -1,0 +1,115 @@
+use native.Mathlib.Omega.{arith}
+use mathlib.Core.Path.{_≡_, sym, ap, _∙_}
+use mathlib.Core.Bool.{true, false}
+use lib.ListN.{drop}
+use borrow.Author.Tests.{not-true, not-false}
+use Rattle.buffers.specs.Bytes.{allFF}
+use Rattle.buffers.proofs.Walk.{tail}
+use Rattle.nvram.specs.Checked.{checked, slotFigures}
+use Rattle.nvram.proofs.CheckedLaws.{checked-none}
+use Rattle.nvram.proofs.SoundLaws.{bank-reserved, bank-low, bank-high, bank-usable, bank-size, bank-rest, bank-records, checked-slot}
+use borrow.Author.Needs.{needs}
+use Rattle.nvram.proofs.sound.check_bank.Statement.{statement}
+use Rattle.nvram.proofs.sound.check_bank.Tie as tie
+
+shared-slice-read-if1 : tie.Need-shared-slice-read-if1
+shared-slice-read-if1 c = search needs
+
+unsound-requires : tie.Need-unsound-requires
+unsound-requires c κs = search needs
+
+returns : tie.Need-returns
+returns c = c .unsound .ensures ∙ checked-none _ (bank-reserved _ _ _ (c .before .if1 .taken))
+
+unsound-requires-2 : tie.Need-unsound-requires-2
+unsound-requires-2 c κs = search needs
+
+returns-2 : tie.Need-returns-2
+returns-2 c = c .unsound2 .ensures ∙ checked-none _ (bank-low _ _ _ (c .before .before .before .if1 .left) (omega arith))
+
+unsound-requires-3 : tie.Need-unsound-requires-3
+unsound-requires-3 c κs = search needs
+
+returns-3 : tie.Need-returns-3
+returns-3 c = c .unsound3 .ensures ∙ checked-none _ (bank-high _ _ _ (c .before .before .before .before .before .if1 .left) (omega arith) (omega arith))
+
+unsound-requires-4 : tie.Need-unsound-requires-4
+unsound-requires-4 c κs = search needs
+
+returns-4 : tie.Need-returns-4
+returns-4 c = c .unsound4 .ensures ∙ checked-none _ (bank-usable _ _ _ (c .before .before .before .before .before .before .before .if1 .left) (omega arith) (omega arith) (omega arith))
+
+unsound-requires-5 : tie.Need-unsound-requires-5
+unsound-requires-5 c κs = search needs
+
+returns-5 : tie.Need-returns-5
+returns-5 c = c .unsound5 .ensures ∙ checked-none _ (bank-size _ _ _ (c .before .before .before .before .before .before .before .before .before .before .if1 .left) (omega arith) (omega arith) (omega arith) (omega arith))
+
+cast-total : tie.Need-cast-total
+cast-total c = search needs
+
+sub-all-ff : tie.Need-sub-all-ff
+sub-all-ff c = search needs
+
+part-all-ff-start : tie.Need-part-all-ff-start
+part-all-ff-start c = search needs
+
+part-all-ff-end : tie.Need-part-all-ff-end
+part-all-ff-end c = search needs
+
+all-ff-requires : tie.Need-all-ff-requires
+all-ff-requires c κs = search needs
+
+unsound-requires-6 : tie.Need-unsound-requires-6
+unsound-requires-6 c κs = search needs
+
+returns-6 : tie.Need-returns-6
+returns-6 c = let a = c .before .before .before .before .before .before .before .before .before .before .before .before .before .before .before .before .before .args in
+    let f : allFF (drop (a .entry .total) (a .part .now)) ≡ false = ap allFF (sym (tail (a .part .now) (a .entry .total))) ∙ sym (c .before .before .all-ff .ensures) ∙ not-true _ (c .before .if6 .taken) in
+    c .unsound6 .ensures ∙ checked-none _ (bank-rest (a .header) (a .entry) (a .part .now) (c .before .before .before .before .before .before .before .before .before .before .before .before .before .before .if1 .left) (omega arith) (omega arith) (omega arith) (omega arith) f)
+
+sub-check-records : tie.Need-sub-check-records
+sub-check-records c = search needs
+
+part-check-records-start : tie.Need-part-check-records-start
+part-check-records-start c = search needs
+
+part-check-records-end : tie.Need-part-check-records-end
+part-check-records-end c = search needs
+
+check-records-requires : tie.Need-check-records-requires
+check-records-requires c κs = search needs
+
+returns-7 : tie.Need-returns-7
+returns-7 c = let a = c .before .before .before .before .before .before .before .before .before .before .before .before .before .before .before .before .before .before .args in
+    let f : allFF (drop (a .entry .total) (a .part .now)) ≡ true = ap allFF (sym (tail (a .part .now) (a .entry .total))) ∙ sym (c .before .before .before .all-ff .ensures) ∙ not-false _ (c .before .before .if6 .left) in
+    c .check-records .ensures ∙ checked-slot (a .counting) (a .header) (a .entry .usable) _
+    ∙ ap (checked (slotFigures (a .counting))) (bank-records (a .header) (a .entry) (a .part .now) (c .before .before .before .before .before .before .before .before .before .before .before .before .before .before .before .if1 .left) (omega arith) (omega arith) (omega arith) (omega arith) f)
+
+pub check-bank-spec : {M : Type 1} → statement M
+check-bank-spec =
+    tie.close
+    (tie.spec
+    shared-slice-read-if1
+    unsound-requires
+    returns
+    unsound-requires-2
+    returns-2
+    unsound-requires-3
+    returns-3
+    unsound-requires-4
+    returns-4
+    unsound-requires-5
+    returns-5
+    cast-total
+    sub-all-ff
+    part-all-ff-start
+    part-all-ff-end
+    all-ff-requires
+    unsound-requires-6
+    returns-6
+    sub-check-records
+    part-check-records-start
+    part-check-records-end
+    check-records-requires
+    returns-7)
