@@ -4,7 +4,7 @@ use super::number::u16_at;
 use super::number::u32_at;
 use super::partition::Stop;
 ghost use mathlib.Core.Path.{_≡_};
-ghost use Prim.Native.Nat.{_+_, _≤_, _<_};
+ghost use Prim.Native.Nat.{_+_, _≤_};
 ghost use lib.ListN.{length};
 ghost use Rattle.crc32.specs.Table.{IsTables};
 ghost use Rattle.bank.specs.Record.{varHeaderBytes, typeOf, guidOf, deletedState};
@@ -40,6 +40,9 @@ impl Variable {
     pub const STORE_HEADER_SIZE: usize = 24;
 
     pub const HEADER_SIZE: usize = 36;
+
+    // With an empty key and no value: the closing byte is there.
+    pub const LEAST_SIZE: usize = 37;
 
     pub const DATA: u16 = 0x55AA;
 

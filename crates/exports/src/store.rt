@@ -8,7 +8,7 @@ use nvram::Nvram;
 use writer::Applied;
 use writer::Erase;
 ghost use mathlib.Core.Path.{_≡_};
-ghost use mathlib.Core.List.{[], _∷_};
+ghost use mathlib.Core.List.{[]};
 ghost use lib.ListN.{length};
 ghost use Rattle.nvram.specs.Call.{insert, remove, lookup, fetch, commit, wholeImage, number as numberOf};
 ghost use Rattle.nvram.specs.Contract.{told};

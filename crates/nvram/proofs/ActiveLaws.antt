@@ -99,11 +99,14 @@ module _ {s : Nvram} {w : List ℕ} (g : Sound s w) where
   pub does-7 : (c : Call) → OnActive c → (getD (s .banks) (s .active) (entry Empty 0 0) .kind ≡ Valid → ⊥) → Does c s w (refusal c 7) [] s w
   does-7 c u h = does-refuse c 7 (step-7 book c u (λ e. h (ap (λ (x : Entry). x .kind) entry-is ∙ e)))
 
-  -- the work area reaches past the active part
-  pub part-within : s .active * 131072 + 131072 ≤ length w
-  part-within =
+  -- the work area reaches past each part
+  pub place-within : (i : ℕ) → i < s .n → i * 131072 + 131072 ≤ length w
+  place-within i h =
       let r : book .n * 131072 ≤ length w = subst (λ (i : ℕ). book .n * i ≤ length w) part-size (subst (λ (x : List ℕ). book .n * partSize ≤ length x) (sym work-is) (work-long book fine w)) in
-      omega (arith, fine .inside, active-is)
+      omega (arith, h, n-is)
+
+  pub part-within : s .active * 131072 + 131072 ≤ length w
+  part-within = place-within (s .active) (omega (arith, fine .inside, active-is, n-is))
 
   module _ (v : getD (s .banks) (s .active) (entry Empty 0 0) .kind ≡ Valid) where
     pub bank : Bank

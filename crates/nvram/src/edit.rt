@@ -6,6 +6,7 @@ use super::state::Entry;
 use super::state::Kind;
 use super::state::Nvram;
 use bank::VarType;
+use bank::Variable;
 ghost use mathlib.Core.Path.{_≡_};
 ghost use mathlib.Core.List.{[]};
 ghost use Prim.Native.Nat.{_+_, _≤_, _<_};
@@ -72,13 +73,13 @@ impl Nvram {
         let i = self.active as usize;
         let entry = self.banks[i];
         let left = Nvram::PART - entry.total as usize;
-        if left < 37 {
+        if left < Variable::LEAST_SIZE {
             return false;
         }
-        if left - 37 < key {
+        if left - Variable::LEAST_SIZE < key {
             return false;
         }
-        value <= left - 37 - key
+        value <= left - Variable::LEAST_SIZE - key
     }
 
     // The state with such a record in the active bank.
@@ -90,7 +91,7 @@ impl Nvram {
         let entry = self.banks[i];
         let next = Entry {
             kind: Kind::Valid,
-            total: entry.total + (37 + key + value) as u32,
+            total: entry.total + (Variable::LEAST_SIZE + key + value) as u32,
             usable: entry.usable,
         };
         self.with_entry(i, next)

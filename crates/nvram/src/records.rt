@@ -6,7 +6,7 @@ use bank::Variable;
 ghost use mathlib.Core.Path.{_≡_};
 ghost use mathlib.Core.Bool.{true};
 ghost use mathlib.Core.List.{List};
-ghost use Prim.Native.Nat.{_+_, _≤_, _<_};
+ghost use Prim.Native.Nat.{_+_, _≤_};
 ghost use lib.ListN.{length};
 ghost use Rattle.crc32.specs.Table.{IsTables};
 ghost use Rattle.bank.specs.Record.{Record, recordOf, sizeAt, recordBytes, recordsBytes};
@@ -70,7 +70,7 @@ fn next_record(t: &[u32; 4096], s: &[u8], at: usize) -> Next
         return Next::Stop;
     }
     // Start number and reserved byte in one test.
-    if buffers::u32_of(rest[0], rest[1], 0, rest[3]) != 0x55AA {
+    if buffers::u32_of(rest[0], rest[1], 0, rest[3]) != Variable::DATA as u32 {
         return Next::Stop;
     }
     let header = VarHeader::parse(rest);
@@ -123,7 +123,7 @@ fn is_match(s: &[u8], key: &[u8], typ: VarType) -> bool
     }
     let header = VarHeader::parse(s);
     let closing = Variable::size(header.name_size, 0) - 1;
-    if !buffers::same(&s[36..closing], key) {
+    if !buffers::same(&s[Variable::HEADER_SIZE..closing], key) {
         return false;
     }
     let found = Variable::typ(&s[16..32]);

@@ -16,7 +16,7 @@ ghost use lib.ListN.{length, drop};
 ghost use Rattle.crc32.specs.Table.{IsTables};
 ghost use Rattle.nvram.specs.Part.{given, isBlank, viewHead, viewSlot};
 ghost use Rattle.nvram.specs.Figures.{noFigures};
-ghost use Rattle.nvram.specs.Checked.{checked, unsound, slotFigures, figuresAt, activeFigures};
+ghost use Rattle.nvram.specs.Checked.{checked, slotFigures, figuresAt, activeFigures};
 ghost use Rattle.nvram.specs.Layout.{isEmpty, isFree, allFree, viewSlots, view};
 
 fn is_empty(kind: Kind) -> bool
@@ -94,22 +94,23 @@ fn check_bank(
     requires { ⌜ (length (now part) ≡ 131072) × IsTables 16 (now t) ⌝ }
     ensures { λ r. ⌜ r ≡ checked (slotFigures counting) (viewHead (Head.Good header) entry (now (part .entry))) ⌝ }
 {
+    let total = entry.total as usize;
+    let usable = entry.usable as usize;
     if part[15] != 0 {
         return Checked::unsound();
     }
-    if entry.total < 24 {
+    if total < Variable::STORE_HEADER_SIZE {
         return Checked::unsound();
     }
-    if 131072 < entry.total {
+    if Nvram::PART < total {
         return Checked::unsound();
     }
-    if entry.usable < 24 {
+    if usable < Variable::STORE_HEADER_SIZE {
         return Checked::unsound();
     }
-    if header.size < entry.usable {
+    if (header.size as usize) < usable {
         return Checked::unsound();
     }
-    let total = entry.total as usize;
     if !buffers::all_ff(&part[total..]) {
         return Checked::unsound();
     }

@@ -2,7 +2,7 @@
 use Prim.Native.Nat.{ℕ, _+_, _-_, _≤_}
 use mathlib.Core.Path.{_≡_, sym, ap, _∙_}
 use mathlib.Core.Logic.{_⊎_, inl, inr}
-use mathlib.Core.List.{List, [], _∷_, _++_, append-assoc}
+use mathlib.Core.List.{List, _++_, append-assoc}
 use native.Mathlib.Omega.{arith}
 use lib.ListN.{length, take, drop, replicate, length-append, length-replicate}
 use lib.Seq.{drop-drop}
@@ -20,7 +20,6 @@ use Rattle.nvram.specs.Part.{partSize}
 use Rattle.nvram.specs.Records.{Holds}
 use Rattle.nvram.proofs.SlotLaws.{part-size}
 use Rattle.nvram.proofs.RecordLists.{fine-select}
-use Rattle.nvram.proofs.RecordWalk.{here, holds-size}
 use Rattle.nvram.proofs.PutLaws.{over-over, over-copy, length-over}
 use Rattle.nvram.proofs.ActiveLaws.{part-bytes}
 use Rattle.writer.specs.Move.{Apart, Movable}
@@ -68,27 +67,26 @@ module _ {w : List ℕ} {from end part : ℕ} (m : Movable w from end part) (h :
 
     -- it leaves the records alone
     held : (rs : List Record) → Holds w from end rs → Holds v from end rs
-    unfolding recordsBytes
-    held [] k =
-        let n : end - from ≡ 0 = omega (arith, holds-size w from end [] k) in
-        record { fine = k .fine; low = k .low; high = omega (arith, same, k .high); is = ap (λ (i : ℕ). take i (drop from v)) n }
-    held (r ∷ rs) k =
+    held rs k =
         record {
           fine = k .fine;
           low = k .low;
           high = omega (arith, same, k .high);
           is = ap (λ (l : List ℕ). take (end - from) (drop from l)) e
-              ∙ span-over part (headerBytes h) w fits from (end - from) (clear (m .header-apart) (m .apart))
+              ∙ span-over part (headerBytes h) w fits from (end - from) (clear (m .apart))
               ∙ k .is;
         }
       where
-        clear : Apart part from end → Apart (part + 24) from end → (part + length (headerBytes h) ≤ from) ⊎ (from + (end - from) ≤ part)
-        clear (inr a) b = inr (omega (arith, k .low))
-        clear (inl a) (inl b) = inl (omega (arith, length-header h))
-        clear (inl a) (inr b) = let i = here w from end r rs k in absurd (omega (arith, i .more, i .within))
+        clear : (part + 24 ≤ from) ⊎ (end ≤ part) → (part + length (headerBytes h) ≤ from) ⊎ (from + (end - from) ≤ part)
+        clear (inl a) = inl (omega (arith, length-header h))
+        clear (inr a) = inr (omega (arith, k .low))
+
+    behind : (part + 24 ≤ from) ⊎ (end ≤ part) → Apart (part + 24) from end
+    behind (inl a) = inl a
+    behind (inr a) = inr (omega arith)
 
     pub carriable : ((rs : List Record) × Holds v from end rs) × (part + 24 + (end - from) ≤ length v) × Apart (part + 24) from end
-    carriable = ((m .records, held (m .records) (m .holds)), omega (arith, same, m .few, m .room), m .apart)
+    carriable = ((m .records, held (m .records) (m .holds)), omega (arith, same, m .few, m .room), behind (m .apart))
 
     -- the live records carried behind it
     module _ (p : ℕ) (u : List ℕ)

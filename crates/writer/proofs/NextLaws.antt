@@ -3,7 +3,7 @@ use Prim.Native.Nat.{ℕ, _+_, _*_, _%_, _≤_, _<_}
 use mathlib.Core.Path.{_≡_, refl, sym, ap, ap₂, _∙_, subst}
 use mathlib.Core.List.{List, [], _++_}
 use mathlib.Core.Bool.{Bool, true, false}
-use mathlib.Core.Logic.{inl, inr}
+use mathlib.Core.Logic.{_⊎_, inl, inr}
 use mathlib.Core.Option.{Option}
 use native.Mathlib.Omega.{arith}
 use lib.Dec.{leb}
@@ -32,13 +32,13 @@ use Rattle.nvram.proofs.LayoutLaws.{table-at, table-set}
 use Rattle.nvram.proofs.PutLaws.{length-over}
 use Rattle.nvram.proofs.StepLaws.{moved-fine, next-inside}
 use Rattle.nvram.proofs.CallLaws.{does}
-use Rattle.nvram.proofs.ActiveLaws.{Sound, book, viewed, fine, active-is, n-is, banks-are, bank, bank-is, bank-fine, total-is, total-high, holds}
+use Rattle.nvram.proofs.ActiveLaws.{Sound, book, viewed, fine, active-is, n-is, banks-are, bank, bank-is, bank-fine, total-is, total-high, holds, place-within}
 use Rattle.nvram.proofs.JudgeLaws.{move-grows}
-use Rattle.writer.specs.Move.{Apart, Movable}
+use Rattle.writer.specs.Move.{Movable}
 use Rattle.writer.specs.Answer.{movedState}
 use Rattle.writer.specs.Active.{MoveDue}
 use Rattle.writer.proofs.CommitLaws.{Known, sound, header-is, size-is, commit-step}
-use Rattle.writer.proofs.PlaceLaws.{inside, workWith, laid-with, from-place, over-place, place-within, bank-out}
+use Rattle.writer.proofs.PlaceLaws.{inside, workWith, laid-with, from-place, over-place, bank-out}
 
 -- the code moves the active bank, whose records stand from one place up to another
 pub record Moving (s : Nvram) (w : List ℕ) (h : StoreHeader) (from to : ℕ) : Type 0 where
@@ -81,11 +81,10 @@ module _ {s : Nvram} {w : List ℕ} {h : StoreHeader} {from to : ℕ} (m : Movin
   pub next-in : next < 16
   next-in = omega (arith, next-low, n-is g, fine g .high)
 
-  -- a place in the first bytes of its part
-  elsewhere : (p : ℕ) → next * 131072 ≤ p → p ≤ next * 131072 + 24 → Apart p from to
-  elsewhere p l q = go (leb next (s .active)) refl
+  elsewhere : (next * 131072 + 24 ≤ from) ⊎ (to ≤ next * 131072)
+  elsewhere = go (leb next (s .active)) refl
     where
-      go : (x : Bool) → leb next (s .active) ≡ x → Apart p from to
+      go : (x : Bool) → leb next (s .active) ≡ x → (next * 131072 + 24 ≤ from) ⊎ (to ≤ next * 131072)
       go true e = inl (omega (arith, leb-true next (s .active) e, m .from-is))
       go false e = inr (omega (arith, leb-false next (s .active) e, m .to-is, total-is g v, total-high g v))
 
@@ -96,8 +95,7 @@ module _ {s : Nvram} {w : List ℕ} {h : StoreHeader} {from to : ℕ} (m : Movin
         holds = stand;
         few = omega (arith, total-is g v, total-high g v, m .from-is, m .to-is);
         room = place-within g next next-low;
-        apart = elsewhere (next * 131072 + 24) (omega arith) (omega arith);
-        header-apart = elsewhere (next * 131072) (omega arith) (omega arith);
+        apart = elsewhere;
       }
 
   judged-move : judge k ≡ move

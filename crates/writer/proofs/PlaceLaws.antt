@@ -1,6 +1,6 @@
 -- One slot's part in the work area of a sound state, and the output of the bank in it.
-use Prim.Native.Nat.{ℕ, _+_, _*_, _≤_, _<_}
-use mathlib.Core.Path.{_≡_, sym, ap, _∙_, subst}
+use Prim.Native.Nat.{ℕ, _*_, _≤_, _<_}
+use mathlib.Core.Path.{_≡_, sym, ap, _∙_}
 use mathlib.Core.List.{List, _++_, append-assoc}
 use native.Mathlib.Omega.{arith}
 use lib.ListN.{length, getD, set, take, drop}
@@ -16,7 +16,7 @@ use Rattle.nvram.specs.Part.{partSize, FineSlot}
 use Rattle.nvram.specs.Layout.{layParts, layWork}
 use Rattle.nvram.specs.Commit.{output}
 use Rattle.nvram.proofs.SlotLaws.{part-size, slot-length}
-use Rattle.nvram.proofs.LayoutLaws.{Split, split, fine-at, work-long}
+use Rattle.nvram.proofs.LayoutLaws.{Split, split, fine-at}
 use Rattle.nvram.proofs.PutLaws.{over-mid}
 use Rattle.nvram.proofs.ActiveLaws.{Sound, book, work-is, fine, n-is}
 
@@ -61,12 +61,6 @@ module _ {s : Nvram} {w : List ℕ} (g : Sound s w) (i : ℕ) (h : i < s .n) whe
       ap (over (i * 131072) (partOf partSize x)) work-has
       ∙ over-mid (places .pre) (partOf partSize o) (partOf partSize x) after (i * 131072) front-length
       (slot-length o (fine-at (book g .slots) i (fine g .slots-fine)) ∙ sym (slot-length x f))
-
-  pub place-within : i * 131072 + 131072 ≤ length w
-  place-within =
-      let l : book g .n * partSize ≤ length w = subst (λ (x : List ℕ). book g .n * partSize ≤ length x) (sym (work-is g)) (work-long (book g) (fine g) w) in
-      let r : book g .n * 131072 ≤ length w = subst (λ (n : ℕ). book g .n * n ≤ length w) part-size l in
-      omega (arith, h, n-is g)
 
 -- a bank that fits its size is written as its part begins, whatever follows the part
 pub bank-out : (k : Bank) (y : List ℕ) → FineBank k → total k ≤ k .header .size

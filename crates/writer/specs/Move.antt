@@ -22,5 +22,4 @@ pub record Movable (w : List ℕ) (from end part : ℕ) : Type 0 where
   pub holds : Holds w from end records
   pub few : 24 + (end - from) ≤ 131072
   pub room : part + 131072 ≤ length w
-  pub apart : Apart (part + 24) from end
-  pub header-apart : Apart part from end
+  pub apart : (part + 24 ≤ from) ⊎ (end ≤ part)

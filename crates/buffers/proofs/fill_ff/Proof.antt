@@ -2,7 +2,7 @@ use mathlib.Core.List.{append-nil, _++_}
 use Rattle.buffers.proofs.Walk.{fill-more}
 use borrow.Author.Needs.{needs}
 use native.Mathlib.Omega.{arith}
-use Prim.Native.Nat.{_≤_, _-_, _+_}
+use Prim.Native.Nat.{_≤_, _-_}
 use mathlib.Core.Path.{_≡_, _∙_}
 use lib.ListN.{length, drop, replicate}
 use lib.Seq.{drop-length}

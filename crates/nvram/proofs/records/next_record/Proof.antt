@@ -30,6 +30,9 @@ shared-slice-read-u32-of-3 c = search needs
 u32-of-requires : tie.Need-u32-of-requires
 u32-of-requires c κs = search needs
 
+cast-if2 : tie.Need-cast-if2
+cast-if2 c = search needs
+
 returns-2 : tie.Need-returns-2
 unfolding u16At
 returns-2 c = let a = c .before .before .before .before .before .before .before .before .args in no-next (a .s .now) (a .at) (λ k. c .if2 .taken (omega (arith, k .starts, k .reserved, c .before .u32-of .ensures)))
@@ -99,6 +102,7 @@ next-record-spec =
     shared-slice-read-u32-of-2
     shared-slice-read-u32-of-3
     u32-of-requires
+    cast-if2
     returns-2
     parse-requires
     returns-3

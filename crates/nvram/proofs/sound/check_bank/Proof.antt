@@ -12,6 +12,12 @@ use borrow.Author.Needs.{needs}
 use Rattle.nvram.proofs.sound.check_bank.Statement.{statement}
 use Rattle.nvram.proofs.sound.check_bank.Tie as tie
 
+cast-total : tie.Need-cast-total
+cast-total c = search needs
+
+cast-usable : tie.Need-cast-usable
+cast-usable c = search needs
+
 shared-slice-read-if1 : tie.Need-shared-slice-read-if1
 shared-slice-read-if1 c = search needs
 
@@ -25,28 +31,28 @@ unsound-requires-2 : tie.Need-unsound-requires-2
 unsound-requires-2 c κs = search needs
 
 returns-2 : tie.Need-returns-2
-returns-2 c = c .unsound2 .ensures ∙ checked-none _ (bank-low _ _ _ (c .before .before .before .if1 .left) (omega arith))
+returns-2 c = c .unsound2 .ensures ∙ checked-none _ (bank-low _ _ _ (c .before .before .if1 .left) (omega arith))
 
 unsound-requires-3 : tie.Need-unsound-requires-3
 unsound-requires-3 c κs = search needs
 
 returns-3 : tie.Need-returns-3
-returns-3 c = c .unsound3 .ensures ∙ checked-none _ (bank-high _ _ _ (c .before .before .before .before .before .if1 .left) (omega arith) (omega arith))
+returns-3 c = c .unsound3 .ensures ∙ checked-none _ (bank-high _ _ _ (c .before .before .before .if1 .left) (omega arith) (omega arith))
 
 unsound-requires-4 : tie.Need-unsound-requires-4
 unsound-requires-4 c κs = search needs
 
 returns-4 : tie.Need-returns-4
-returns-4 c = c .unsound4 .ensures ∙ checked-none _ (bank-usable _ _ _ (c .before .before .before .before .before .before .before .if1 .left) (omega arith) (omega arith) (omega arith))
+returns-4 c = c .unsound4 .ensures ∙ checked-none _ (bank-usable _ _ _ (c .before .before .before .before .if1 .left) (omega arith) (omega arith) (omega arith))
+
+cast-if5 : tie.Need-cast-if5
+cast-if5 c = search needs
 
 unsound-requires-5 : tie.Need-unsound-requires-5
 unsound-requires-5 c κs = search needs
 
 returns-5 : tie.Need-returns-5
-returns-5 c = c .unsound5 .ensures ∙ checked-none _ (bank-size _ _ _ (c .before .before .before .before .before .before .before .before .before .before .if1 .left) (omega arith) (omega arith) (omega arith) (omega arith))
-
-cast-total : tie.Need-cast-total
-cast-total c = search needs
+returns-5 c = c .unsound5 .ensures ∙ checked-none _ (bank-size _ _ _ (c .before .before .before .before .before .before .if1 .left) (omega arith) (omega arith) (omega arith) (omega arith))
 
 sub-all-ff : tie.Need-sub-all-ff
 sub-all-ff c = search needs
@@ -64,12 +70,9 @@ unsound-requires-6 : tie.Need-unsound-requires-6
 unsound-requires-6 c κs = search needs
 
 returns-6 : tie.Need-returns-6
-returns-6 c = let a = c .before .before .before .before .before .before .before .before .before .before .before .before .before .before .before .before .before .args in
+returns-6 c = let a = c .before .before .before .before .before .before .before .before .before .before .before .before .before .before .args in
     let f : allFF (drop (a .entry .total) (a .part .now)) ≡ false = ap allFF (sym (tail (a .part .now) (a .entry .total))) ∙ sym (c .before .before .all-ff .ensures) ∙ not-true _ (c .before .if6 .taken) in
-    c .unsound6 .ensures ∙ checked-none _ (bank-rest (a .header) (a .entry) (a .part .now) (c .before .before .before .before .before .before .before .before .before .before .before .before .before .before .if1 .left) (omega arith) (omega arith) (omega arith) (omega arith) f)
-
-sub-check-records : tie.Need-sub-check-records
-sub-check-records c = search needs
+    c .unsound6 .ensures ∙ checked-none _ (bank-rest (a .header) (a .entry) (a .part .now) (c .before .before .before .before .before .before .before .before .before .if1 .left) (omega arith) (omega arith) (omega arith) (omega arith) f)
 
 part-check-records-start : tie.Need-part-check-records-start
 part-check-records-start c = search needs
@@ -81,15 +84,17 @@ check-records-requires : tie.Need-check-records-requires
 check-records-requires c κs = search needs
 
 returns-7 : tie.Need-returns-7
-returns-7 c = let a = c .before .before .before .before .before .before .before .before .before .before .before .before .before .before .before .before .before .before .args in
+returns-7 c = let a = c .before .before .before .before .before .before .before .before .before .before .before .before .before .before .before .args in
     let f : allFF (drop (a .entry .total) (a .part .now)) ≡ true = ap allFF (sym (tail (a .part .now) (a .entry .total))) ∙ sym (c .before .before .before .all-ff .ensures) ∙ not-false _ (c .before .before .if6 .left) in
     c .check-records .ensures ∙ checked-slot (a .counting) (a .header) (a .entry .usable) _
-    ∙ ap (checked (slotFigures (a .counting))) (bank-records (a .header) (a .entry) (a .part .now) (c .before .before .before .before .before .before .before .before .before .before .before .before .before .before .before .if1 .left) (omega arith) (omega arith) (omega arith) (omega arith) f)
+    ∙ ap (checked (slotFigures (a .counting))) (bank-records (a .header) (a .entry) (a .part .now) (c .before .before .before .before .before .before .before .before .before .before .if1 .left) (omega arith) (omega arith) (omega arith) (omega arith) f)
 
 pub check-bank-spec : {M : Type 1} → statement M
 check-bank-spec =
     tie.close
     (tie.spec
+    cast-total
+    cast-usable
     shared-slice-read-if1
     unsound-requires
     returns
@@ -99,16 +104,15 @@ check-bank-spec =
     returns-3
     unsound-requires-4
     returns-4
+    cast-if5
     unsound-requires-5
     returns-5
-    cast-total
     sub-all-ff
     part-all-ff-start
     part-all-ff-end
     all-ff-requires
     unsound-requires-6
     returns-6
-    sub-check-records
     part-check-records-start
     part-check-records-end
     check-records-requires
