@@ -11,7 +11,7 @@ const BLOCK: usize = 512;
 // Smaller where the block that has another byte is read again.
 const SHORT: usize = 128;
 
-fn wide(x: u8) -> u32
+pub fn wide(x: u8) -> u32
     ensures { λ r. ⌜ (r ≡ x) × (r < 256) ⌝ }
 {
     x as u32

@@ -117,7 +117,7 @@ module _ {t : List ℕ} (is : IsTables 16 t) where
   unfolding byWords
   words-steps = runs-steps 4 (shares t 0) (byBytes t) word-steps (λ c l h k. by-bytes is (lit≤ tt) c l k)
 
-  pub blocks-steps : (c : ℕ) (l : List ℕ) → c < 2 ^ 32 → Bytes l → byBlocks t c l ≡ byteSteps c l
+  blocks-steps : (c : ℕ) (l : List ℕ) → c < 2 ^ 32 → Bytes l → byBlocks t c l ≡ byteSteps c l
   unfolding byBlocks
   blocks-steps = runs-steps 16 (block t) (byWords t) block-steps words-steps
 

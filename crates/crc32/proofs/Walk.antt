@@ -1,13 +1,13 @@
 -- The table forms from a place in a list: one byte or block more, and none left.
 use mathlib.Core.Path.{_≡_, sym, ap, _∙_}
-use mathlib.Core.List.{List, _++_, append-assoc}
+use mathlib.Core.List.{List}
 use Prim.Native.Nat.{ℕ, zero, suc, _+_, _-_, _/_, _≤_, _<_}
 use native.Mathlib.Nat.{add-div-right, div-eq-of-lt}
 use native.Mathlib.Numerals.{add-one}
 use native.Mathlib.Omega.{arith}
 use lib.Bits.{bitXor, xor-zero-r}
-use lib.ListN.{length, set, take, drop, getD, drop-of-length-le, length-drop}
-use lib.Seq.{drop-cons, drop-drop, take-suc, take-all, set-at, length-take-le}
+use lib.ListN.{length, take, drop, getD, drop-of-length-le, length-drop}
+use lib.Seq.{drop-cons, drop-drop, length-take-le}
 use Rattle.crc32.specs.Table.{entry, byBytes, shares, times, inRuns}
 use Rattle.crc32.proofs.Linear.{xor-assoc}
 use Rattle.crc32.proofs.Shares.{share-nil, share-cons}
@@ -32,10 +32,6 @@ pub late-none : (t : List ℕ) (acc : ℕ) (l : List ℕ) (i : ℕ) → length l
 late-none t acc l i h =
     ap (λ (d : List ℕ). bitXor acc (shares t 0 0 d)) (drop-of-length-le l h) ∙ ap (bitXor acc) (share-nil t 0 0) ∙ xor-zero-r acc
 
--- what is lent as `&l[i..]`
-pub tail : (l : List ℕ) (i : ℕ) → take (length l - i) (drop i l) ≡ drop i l
-tail l i = take-all (length l - i) (drop i l) (omega (arith, length-drop i l))
-
 -- what is lent as `&l[i..i + w]`
 pub run-length : (w : ℕ) (l : List ℕ) (i : ℕ) → i + w ≤ length l → length (take (i + w - i) (drop i l)) ≡ w
 run-length w l i h =
@@ -54,9 +50,3 @@ run-more w f g c l i z h =
 pub run-none : (w : ℕ) (f g : ℕ → List ℕ → ℕ) (c : ℕ) (l : List ℕ) → length l < w → inRuns w f g c l ≡ g c l
 unfolding inRuns times
 run-none w f g c l h = rw (div-eq-of-lt h)
-
-pub copy-more : (s d : List ℕ) (i : ℕ) → i < length s → i < length d
-    → set (take i s ++ drop i d) i (getD s i 0) ≡ take (i + 1) s ++ drop (i + 1) d
-copy-more s d i h k =
-    rw (add-one, drop-cons d i 0, set-at (take i s) (getD d i 0) (drop (suc i) d) (getD s i 0) i (length-take-le i s (omega arith)), take-suc s i 0)
-    (rw append-assoc)

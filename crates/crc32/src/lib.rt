@@ -16,12 +16,6 @@ const ONES: u32 = 0xFFFF_FFFF;
 // Below this length a byte at a time takes less time than the sixteen tables take to make.
 const LONG: usize = 112;
 
-fn wide(b: u8) -> u32
-    ensures { λ r. ⌜ r ≡ b ⌝ }
-{
-    b as u32
-}
-
 fn look(t: &[u32], row: usize, n: u32) -> u32
     requires { ⌜ (row < 16) × ((row + 1) * 256 ≤ length (now t)) ⌝ }
     ensures { λ r. ⌜ r ≡ entry (now (t .entry)) row n ⌝ }
@@ -36,7 +30,7 @@ fn by_bytes(t: &[u32], start: u32, bytes: &[u8]) -> u32
     let mut crc = start;
     let mut i: usize = 0;
     while i < bytes.len() {
-        crc = look(t, 0, crc ^ wide(bytes[i])) ^ (crc >> 8);
+        crc = look(t, 0, crc ^ buffers::wide(bytes[i])) ^ (crc >> 8);
         i += 1;
     }
     crc
@@ -50,7 +44,7 @@ fn late_bytes(t: &[u32; 4096], bytes: &[u8]) -> u32
     let mut acc: u32 = 0;
     let mut i: usize = 0;
     while i < bytes.len() {
-        acc ^= look(t, bytes.len() - 1 - i, wide(bytes[i]));
+        acc ^= look(t, bytes.len() - 1 - i, buffers::wide(bytes[i]));
         i += 1;
     }
     acc

@@ -1,4 +1,5 @@
--- What the check for refusal 6 answers: whether there is what it looks for, and what live records come to there, if that is to be counted.
+-- What the check for refusal 6 answers (01, 'Refusals from the state'): whether there is what it looks for, and what live records come to
+-- there by section, if that is to be counted (01, 'A commit, from the entry down').
 use Prim.Native.Nat.{ℕ}
 use mathlib.Core.Bool.{Bool, true, false, cond}
 use mathlib.Core.List.{List}
@@ -14,6 +15,7 @@ use Rattle.nvram.specs.Figures.{figuresOf, noFigures}
 abbrev pub unsound : Checked
 unsound = record { sound = false; used = noFigures }
 
+-- what was viewed, with its figures, or nothing
 unfoldable pub checked : {A : Type 0} → (A → Figures) → Option A → Checked
 checked f none = unsound
 checked f (some x) = record { sound = true; used = f x }
@@ -21,6 +23,7 @@ checked f (some x) = record { sound = true; used = f x }
 unfoldable pub recordsFigures : Bool → List Record → Figures
 recordsFigures counting rs = cond counting (figuresOf rs) noFigures
 
+-- a slot that is not Valid has none
 unfoldable pub slotFigures : Bool → Slot → Figures
 slotFigures counting empty = noFigures
 slotFigures counting invalid = noFigures

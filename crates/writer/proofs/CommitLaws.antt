@@ -39,7 +39,6 @@ use Rattle.writer.specs.Answer.{applied}
 use Rattle.writer.specs.Active.{Active, MoveDue, Used, Commits}
 use Rattle.writer.proofs.PlaceLaws.{after, part-here, bank-out}
 
--- what the check for refusal 6 told
 -- the figures that the check answers
 pub checked-used : (r : Checked) (o : Option Book) → r ≡ checked (activeFigures true) o → (b : Book) (k : Bank) → o ≡ some b
     → activeSlot b ≡ valid k → r .used ≡ figuresOf (k .records)

@@ -3,7 +3,7 @@ use native.Mathlib.Omega.{arith}
 use lib.Bits.{bitXor}
 use lib.Seq.{length-take-le}
 use Rattle.crc32.specs.Table.{block, shares}
-use Rattle.crc32.proofs.Walk.{tail}
+use Rattle.buffers.proofs.Walk.{tail}
 use borrow.Author.Needs.{needs}
 use Rattle.crc32.proofs.by_block.Statement.{statement}
 use Rattle.crc32.proofs.by_block.Tie as tie

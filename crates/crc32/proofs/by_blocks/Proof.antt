@@ -1,4 +1,5 @@
-use Rattle.crc32.proofs.Walk.{run-length, tail, run-more, run-none}
+use Rattle.buffers.proofs.Walk.{tail}
+use Rattle.crc32.proofs.Walk.{run-length, run-more, run-none}
 use mathlib.Core.Path.{_≡_, sym, ap, _∙_}
 use Prim.Native.Nat.{_-_, _≤_}
 use native.Mathlib.Omega.{arith}

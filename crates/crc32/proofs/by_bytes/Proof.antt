@@ -34,7 +34,7 @@ loop-less c = search needs
 
 loop-again : tie.Need-loop-again Inv-loop μ-loop
 loop-again c = let now = c .before .before .before .before .loop in let t = c .before .before .before .before .before .before .before .args .t .now in let s = c .before .before .before .before .before .before .before .args .bytes .now in
-    (search needs, rw (c .look .ensures, c .before .wide .ensures) (byte-more t (now .crc) s (now .i) (omega arith) ∙ now .inv .1))
+    (search needs, rw (c .look .ensures, c .before .wide .ensures .0) (byte-more t (now .crc) s (now .i) (omega arith) ∙ now .inv .1))
 
 returns : tie.Need-returns Inv-loop μ-loop
 returns c = let now = c .before .loop in sym (byte-none (c .before .before .before .before .args .t .now) (now .crc) (c .before .before .before .before .args .bytes .now) (now .i) (omega arith)) ∙ now .inv .1

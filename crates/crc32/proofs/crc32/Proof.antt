@@ -4,7 +4,8 @@ use Prim.Native.Nat.{ℕ}
 use lib.Bits.{bitXor}
 use lib.Dec.{lit≤}
 use Rattle.crc32.specs.Crc32.{crc32Of}
-use Rattle.crc32.proofs.ByTable.{by-bytes, blocks-steps}
+use Rattle.crc32.specs.Table.{crc32By}
+use Rattle.crc32.proofs.ByTable.{by-bytes, crc-by}
 use borrow.Author.Needs.{needs}
 use Rattle.crc32.proofs.crc32.Statement.{statement}
 use Rattle.crc32.proofs.crc32.Tie as tie
@@ -32,11 +33,9 @@ returns c = ap (λ (x : ℕ). bitXor x 0xFFFFFFFF)
     (λ i. omega (arith, c .before .before .before .before .shared-slice-known .given i)))
 
 returns-2 : tie.Need-returns-2
-unfolding crc32Of
-returns-2 c = ap (λ (x : ℕ). bitXor x 0xFFFFFFFF)
-    (c .by-blocks .ensures
-    ∙ blocks-steps (c .before .before .tables .ensures) 0xFFFFFFFF (c .before .before .before .before .before .args .bytes .now) (lit≤ tt)
-    (λ i. omega (arith, c .before .before .before .before .shared-slice-known .given i)))
+unfolding crc32By
+returns-2 c = ap (λ (x : ℕ). bitXor x 0xFFFFFFFF) (c .by-blocks .ensures)
+    ∙ crc-by (c .before .before .tables .ensures) (c .before .before .before .before .before .args .bytes .now) (λ i. omega (arith, c .before .before .before .before .shared-slice-known .given i))
 
 pub crc32-spec : {M : Type 1} → statement M
 crc32-spec =

@@ -42,7 +42,7 @@ loop-less c = search needs
 loop-again : tie.Need-loop-again Inv-loop μ-loop
 loop-again c = let now = c .before .before .before .before .before .loop in let a = c .before .before .before .before .before .before .before .args in let s = a .bytes .now in (
   search needs,
-  rw (c .look .ensures, c .before .wide .ensures)
+  rw (c .look .ensures, c .before .wide .ensures .0)
       (late-more (a .t .now) (now .acc) s (now .i) _ (omega arith) (omega (arith, c .before .before .shared-slice-known2 .given (now .i))) refl ∙ now .inv .1),
 )
 
