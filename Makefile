@@ -1,15 +1,33 @@
-# The main job: a program of crates/ and a sample for its standard input.
+# The main job: a program of crates/ and a bank for its standard input.
 PROGRAM = banklist
 SAMPLE = samples/bank.bin
+PREFIX = /usr/local
 
+.DEFAULT_GOAL = help
 .NOTPARALLEL:
-.PHONY: run test differ bench clean
+.PHONY: help run test lib install differ bench clean
+
+help:
+	@echo 'make run               lists the bank of samples/; SAMPLE=file lists another'
+	@echo 'make test              proves every function, tries the must-fail edits, compares with the Rust'
+	@echo 'make lib               dist/: the library, its header and banklist'
+	@echo 'make install           puts dist/ below PREFIX ($(PREFIX)), and below DESTDIR where that is set'
+	@echo 'make differ            compares with the Rust on many more inputs; SEED=N repeats a run'
+	@echo 'make bench             times the library and the Rust side by side'
+	@echo 'make clean             removes what was built, dist/ too'
+	@echo 'V=1 with any of them shows all that the prover says; else target/log has it'
 
 run:
 	@scripts/run $(PROGRAM) $(SAMPLE)
 
 test:
 	@scripts/test
+
+lib:
+	@scripts/library dist
+
+install:
+	@scripts/install dist $(DESTDIR)$(PREFIX)
 
 # SEED=N repeats an earlier run.
 differ:
@@ -20,4 +38,4 @@ bench:
 	@scripts/judge bench --long
 
 clean:
-	rm -rf target host/target host/Cargo.lock
+	rm -rf target dist host/target host/Cargo.lock

@@ -1,10 +1,16 @@
 /*
- * Feqyondil: a proved flash store, v3 banks.
+ * Feqyondil: a proved flash store, v3 banks. docs/USING.md goes from a blank board to a running
+ * store; docs/SPEC.md has the format and what each call promises.
  *
- * No function keeps a pointer, allocates, or reads or writes outside the buffers it is lent. A byte
- * buffer is a pointer and a length; a pointer with length 0 is never followed, but must not be
- * null. Arrays have the length that their type names. A buffer that is not const must not overlap
- * another buffer of the same call. Stored numbers are little-endian.
+ * Where it runs: on x86-64. There is no library for a microcontroller yet. It calls memcpy and
+ * memset and nothing else.
+ *
+ * Buffers. No function keeps a pointer, allocates, or reads or writes outside the buffers that it
+ * is lent. A byte buffer is a pointer and a length; with length 0 the pointer is never followed and
+ * may be null. Arrays have the length that their type names and must not be null. A buffer that is
+ * not const must not overlap another buffer of the same call. Stored numbers are little-endian.
+ *
+ * Threads. No function has state of its own: calls on different buffers may run at once.
  */
 #ifndef FEQYONDIL_H
 #define FEQYONDIL_H
@@ -15,6 +21,9 @@
 #ifdef __cplusplus
 extern "C" {
 #endif
+
+/* Raised with each change of a prototype or of the state's layout: docs/CHANGES.md. */
+#define FEQYONDIL_VERSION 1u
 
 /* Sizes, in bytes. */
 #define FEQYONDIL_BANK_SIZE 65536u       /* one bank of an image */
@@ -27,8 +36,11 @@ extern "C" {
 #define FEQYONDIL_COMMON 0u
 #define FEQYONDIL_SYSTEM 1u
 
-/* Numbers of a call; all but the first refuse, and a refusal changes nothing that was lent,
-   except as feqyondil_open, feqyondil_lookup, feqyondil_commit and feqyondil_whole_image say. */
+/*
+ * Numbers of a call. All but the first refuse, and a refusal changes nothing that was lent, except
+ * as feqyondil_open, feqyondil_lookup, feqyondil_commit and feqyondil_whole_image say. What to do
+ * after each: docs/USING.md, 'Refusals'.
+ */
 #define FEQYONDIL_OK 0u
 #define FEQYONDIL_IMAGE_SHORT 1u   /* the image is below 65,536 bytes */
 #define FEQYONDIL_IMAGE_LONG 2u    /* the image is of 1,114,112 bytes or more */
@@ -38,17 +50,27 @@ extern "C" {
 #define FEQYONDIL_NOT_SOUND 6u     /* state and work area are not those of an opened store */
 #define FEQYONDIL_NOT_VALID 7u     /* the active bank isn't Valid */
 #define FEQYONDIL_FULL 8u          /* insert would bring the bank's total over 131,072 */
-#define FEQYONDIL_SYSTEM_LIMIT 9u  /* live system values are over the header's limit */
-#define FEQYONDIL_COMMON_LIMIT 10u /* live common values are over the header's limit */
+#define FEQYONDIL_SYSTEM_LIMIT 9u  /* live system records are over the header's limit */
+#define FEQYONDIL_COMMON_LIMIT 10u /* live common records are over the header's limit */
 #define FEQYONDIL_LAST_MOVE 11u    /* the bank is to move, and its generation is 4,294,967,295 */
-#define FEQYONDIL_MOVED_OVER 12u   /* the bank has moved, and its live values are over its size */
+#define FEQYONDIL_MOVED_OVER 12u   /* the bank has moved, and its live records are over its size */
 #define FEQYONDIL_BANK_OVER 13u    /* a Valid bank's total is over its size */
 
-/* Kinds of a bank, as feqyondil_partition_parse answers them. */
+/* Kinds of a bank as feqyondil_partition_parse answers them; the state's kinds are below. */
 #define FEQYONDIL_SLOT_SHORT 0u   /* too few bytes were lent */
 #define FEQYONDIL_SLOT_EMPTY 1u
 #define FEQYONDIL_SLOT_INVALID 2u
 #define FEQYONDIL_SLOT_VALID 3u
+
+/* Places in the fields that go with them. */
+#define FEQYONDIL_FIELD_SIZE 0u
+#define FEQYONDIL_FIELD_GENERATION 1u
+#define FEQYONDIL_FIELD_STATE 2u
+#define FEQYONDIL_FIELD_FLAGS 3u
+#define FEQYONDIL_FIELD_SYSTEM_LIMIT 4u
+#define FEQYONDIL_FIELD_COMMON_LIMIT 5u
+#define FEQYONDIL_FIELD_TOTAL 6u
+#define FEQYONDIL_FIELD_USABLE 7u
 
 /*
  * The checksum.
@@ -68,33 +90,55 @@ uint32_t feqyondil_crc32_with(const uint32_t tables[4096], const uint8_t *bytes,
  */
 
 /*
- * Reads the bank in the first 65,536 bytes of nvr and answers its kind: 0 where fewer are lent.
- * fields gets size, generation, state, flags, system limit, common limit, total and usable; zeros
- * unless the bank is Valid.
+ * Reads the bank in the first 65,536 bytes of nvr and answers its kind, FEQYONDIL_SLOT_SHORT where
+ * fewer are lent. fields gets the numbers that FEQYONDIL_FIELD_SIZE to FEQYONDIL_FIELD_USABLE name;
+ * zeros unless the bank is Valid.
  */
 uint32_t feqyondil_partition_parse(const uint8_t *nvr, size_t nvr_len, uint64_t fields[8]);
 
 /*
  * The same, and the bank as it would be written to part, then 0xFF to its end; all 0xFF for a bank
- * that isn't Valid. 0 where nvr or part is below 65,536 bytes; part is then left as it was.
+ * that isn't Valid. FEQYONDIL_SLOT_SHORT where nvr or part is below 65,536 bytes; part is then left
+ * as it was.
  */
 uint32_t feqyondil_partition_serialize(const uint8_t *nvr, size_t nvr_len, uint8_t *part, size_t part_len,
                                        uint64_t fields[8]);
 
 /*
  * The store. The caller lends a state and a work area to each call, as the call before left them.
+ * They hold no pointers: between two calls they may be copied elsewhere.
  *
- * The state's first 204 bytes are 51 numbers of four bytes: n, active, tally, then 16 entries of
- * kind (0 Empty, 1 Invalid, 2 Valid), total and usable. Later bytes are ignored and left. Every
- * call but feqyondil_open refuses by 6 where fewer bytes are lent, where a kind is above 2, and
- * where state and work area are not sound.
+ * The state's first 204 bytes are numbers of four bytes: how many banks there are, which is active,
+ * the tally of erase requests, then 16 entries, one for each bank. Later bytes are ignored and left.
+ * Every call but feqyondil_open refuses by 6 where fewer bytes are lent, where an entry's kind is
+ * none of the three, and where state and work area are not sound.
  *
- * The work area is n * 131,072 bytes. Later bytes are ignored and left.
+ * The work area is 131,072 bytes for each bank. Later bytes are ignored and left.
  */
+#define FEQYONDIL_STATE_BANKS 0u    /* n, the number of banks */
+#define FEQYONDIL_STATE_ACTIVE 4u   /* the active one, counted from 0 */
+#define FEQYONDIL_STATE_TALLY 8u    /* erase requests since the opening, up to 4,294,967,295 */
+#define FEQYONDIL_STATE_ENTRIES 12u /* bank i's is FEQYONDIL_ENTRY_SIZE * i bytes behind */
+#define FEQYONDIL_ENTRY_SIZE 12u
+#define FEQYONDIL_ENTRY_KIND 0u     /* places in an entry */
+#define FEQYONDIL_ENTRY_TOTAL 4u
+#define FEQYONDIL_ENTRY_USABLE 8u
+
+/* Kinds of a bank in a state's entry; feqyondil_partition_parse counts them otherwise. */
+#define FEQYONDIL_KIND_EMPTY 0u
+#define FEQYONDIL_KIND_INVALID 1u
+#define FEQYONDIL_KIND_VALID 2u
+
+/* The number of a state at one of these offsets, as in feqyondil_state_number(state, FEQYONDIL_STATE_TALLY). */
+static inline uint32_t feqyondil_state_number(const uint8_t *state, size_t offset) {
+    const uint8_t *four = state + offset;
+    return (uint32_t)four[0] | (uint32_t)four[1] << 8 | (uint32_t)four[2] << 16 | (uint32_t)four[3] << 24;
+}
 
 /*
  * Opens an image of 1 to 16 banks of 65,536 bytes; a last part of a bank is ignored. Answers 0,
- * and fills state and work area.
+ * and fills state and work area. The active bank may still be one that isn't Valid, where every
+ * Valid bank has generation 0: then edits, lookups and commits are refused by 7.
  *
  * Refusals: 6 where the state is below 204 bytes, and then nothing is written; 1, 2, 3, 4, in this
  * order, and then the state is all zeros in its first 204 bytes and the work area as it was.
@@ -104,10 +148,12 @@ uint32_t feqyondil_open(const uint8_t *image, size_t image_len, uint8_t *state, 
 
 /*
  * Puts a value under a key of a type into the active bank, in place of every live one of that key
- * and type.
+ * and type. It is in the flash only when a commit was carried out.
  *
- * Refusals: 6, 7, and 8, of which each leaves state and work area as they were. The record takes
- * 37 bytes, and the key and the value.
+ * A key is any bytes, without the closing byte that a record has behind it. The record takes 37
+ * bytes, and the key and the value: whole records, not values, count in the header's limits.
+ *
+ * Refusals: 6, 7, and 8, of which each leaves state and work area as they were.
  */
 uint32_t feqyondil_insert(uint8_t *state, size_t state_len, uint8_t *work, size_t work_len, const uint8_t *key,
                           size_t key_len, const uint8_t *value, size_t value_len, uint32_t type);
@@ -120,6 +166,11 @@ uint32_t feqyondil_insert(uint8_t *state, size_t state_len, uint8_t *work, size_
  */
 uint32_t feqyondil_remove(const uint8_t *state, size_t state_len, uint8_t *work, size_t work_len,
                           const uint8_t *key, size_t key_len, uint32_t type);
+
+/* Places in what feqyondil_lookup answers. */
+#define FEQYONDIL_FOUND 0u        /* 1, or 0 where there is no such value */
+#define FEQYONDIL_FOUND_PLACE 1u  /* counted from the start of the work area */
+#define FEQYONDIL_FOUND_LENGTH 2u
 
 /*
  * Looks a key and a type up in the active bank. found gets 1, the value's place counted from the
@@ -139,6 +190,12 @@ uint32_t feqyondil_lookup(const uint8_t *state, size_t state_len, const uint8_t 
 size_t feqyondil_value(const uint8_t *state, size_t state_len, const uint8_t *work, size_t work_len,
                        const uint8_t *key, size_t key_len, uint32_t type, uint8_t *out, size_t out_len);
 
+/* Places in what feqyondil_commit asks for. */
+#define FEQYONDIL_ERASE 0u        /* 1, or 0 where no bank is to be erased */
+#define FEQYONDIL_ERASE_OFFSET 1u
+#define FEQYONDIL_WRITE_OFFSET 2u
+#define FEQYONDIL_WRITE_LENGTH 3u /* of the front of output */
+
 /*
  * Answers what to do to the flash so that it holds the active bank, and puts the bytes to write at
  * the front of output, which has at least 65,536; output behind them stays. Where the bank is full
@@ -146,12 +203,25 @@ size_t feqyondil_value(const uint8_t *state, size_t state_len, const uint8_t *wo
  *
  * requests gets 1 and the offset of the bank to erase, all 65,536 bytes of it, or 0 and 0; then the
  * write's offset and its length in output. The caller erases first, then writes: to the flash that
- * was opened, and nothing else. The state's tally counts the erase requests since the opening and
- * stops at 4,294,967,295.
+ * was opened, and nothing else. Where its erase or its write fails, the caller opens the flash
+ * again: the state takes both as done. The state's tally counts the erase requests since the
+ * opening and stops at 4,294,967,295.
  *
  * Refusals: 6, 5, 7, 9, 10, 11, in this order; requests then gets zeros and the rest stays as it
  * was. Last 12: output stays, but state and work area have moved, the tally has counted, and
- * requests has the erase, with zeros for the write.
+ * requests has the erase, with zeros for the write. After 12, leave the flash alone and open it
+ * again: carried out, that erase is of the next bank, and the next commit may ask for the erase of
+ * the only good one.
+ *
+ * POWER CUTS. Written from the first byte to the last, a commit that is cut off can lose what was
+ * stored: of the 48 cut points of a strike count that is committed in place, 33 lose the count and
+ * 15 the whole store; of the 64 of one whose bank moves, 34 lose the count. Where only the bytes
+ * that differ are written, one at a time, from the last to the first, none of some 200,000 cuts that
+ * `make differ` tries loses anything, with two banks or more and 0xFF behind the active bank's
+ * records to begin with. That is tried, not proved. After such a cut the next commit has to move,
+ * or it can bring back what was cut off: docs/USING.md, 'Power cuts', says how. With one bank, a
+ * move that is cut off loses the store in any order. A commit in steps that is proved against power
+ * cuts is to come with a later version.
  */
 uint32_t feqyondil_commit(uint8_t *state, size_t state_len, uint8_t *work, size_t work_len, uint8_t *output,
                           size_t output_len, uint64_t requests[4]);
@@ -159,6 +229,10 @@ uint32_t feqyondil_commit(uint8_t *state, size_t state_len, uint8_t *work, size_
 /*
  * Joins the Valid banks, each at its own size, at the front of output, which has at least 65,536
  * bytes per bank; output behind them stays. length gets how many bytes they are.
+ *
+ * That is no copy of the flash: banks that aren't Valid are left out, and so are the bytes behind a
+ * bank's size. The bank that a move left is over its size, if that was why it moved: then this is
+ * refused by 13 until the flash is opened again.
  *
  * Refusals: 6, 5 and 13, of which each leaves output as it was; length then gets 0.
  */

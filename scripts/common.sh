@@ -7,9 +7,9 @@ cd "$(dirname "${BASH_SOURCE[0]}")/.."
 NVRAM_RUST=$(realpath -m "${NVRAM_RUST:-../shared}")
 # The Rust's crates, as Debian's packages lay them out.
 DEBIAN_CRATES=${DEBIAN_CRATES:-/usr/share/cargo/registry}
-# The port, for the Rust side to link.
-FEQYONDIL_STATICLIB=$PWD/target/staticlib/libexports.a
-export NVRAM_RUST FEQYONDIL_STATICLIB
+# The folder of libfeqyondil.a, for the C programs and the Rust side to link.
+FEQYONDIL_LIB=$PWD/target/staticlib
+export NVRAM_RUST FEQYONDIL_LIB
 
 # As host/Cargo.toml says.
 OLDEST_RUST=1.70
@@ -40,66 +40,44 @@ need_kit() {
     [ "$here" = "$recorded" ] || warn "ANOTHER KIT than $recorded, which rattle-kit.txt records"
 }
 
-has_papers() {
-    local name
-    for name in lib v1v2 v3; do
-        [ -f "$NVRAM_RUST/src--apple-nvram--src--$name.rs.txt" ] || return 1
-    done
+# The C compiler, with the options that our programs are held to.
+cc=${CC:-cc}
+compile() { "$cc" -std=c99 -pedantic -Wall -Wextra -Werror -O2 "$@"; }
+
+need_cc() { command -v "$cc" >/dev/null || fail "missing: a C compiler; install Debian's package gcc"; }
+need_python() { command -v python3 >/dev/null || fail "missing: python3; install Debian's package python3"; }
+
+# fenced LANGUAGE [N]: the first, or the Nth, block of docs/USING.md that is marked so.
+fenced() {
+    awk -v mark="\`\`\`$1" -v nth="${2:-1}" '/^```/ { on = 0; if ($0 == mark) on = ++seen == nth; next } on' docs/USING.md
 }
 
-has_cargo() { command -v cargo >/dev/null && command -v rustc >/dev/null; }
-has_crate() { compgen -G "$DEBIAN_CRATES/$1-*" >/dev/null; }
-
-# What the comparison with the Rust lacks and how to get it, in one line; nothing if it is complete.
-judge_lacks() {
-    local version
-    if ! has_papers; then
-        echo "the Rust's sources; put shared/ beside the repository, or name their folder in NVRAM_RUST"
-    elif ! has_cargo; then
-        echo "cargo and rustc $OLDEST_RUST or later; install Debian's package cargo (Debian 12: cargo-web)"
-    elif version=$(rustc --version | cut -d' ' -f2) &&
-        ! printf '%s\n' "$OLDEST_RUST" "$version" | sort -VC; then
-        echo "rustc $OLDEST_RUST or later, and this is $version; on Debian 12 install the package cargo-web"
-    elif ! has_crate crc32fast || ! has_crate adler32; then
-        echo "the Rust's crates; install Debian's packages librust-crc32fast-dev and librust-adler32-dev"
+# proving CRATES EDITS COMMAND..: runs rt with a line for each of so many crates and edits; with V=1 shows all that it prints.
+proving() {
+    local crates=$1 edits=$2
+    shift 2
+    if [ "${V:-}" = 1 ]; then
+        "$@" 2>&1
+    else
+        "$@" 2>&1 | awk -v crates="$crates" -v edits="$edits" -f scripts/progress.awk
     fi
 }
 
-# Debian 12's own cargo is too old for v3.rs; its newer one is called cargo-web.
-cargo_package() {
-    if apt-cache show cargo-web >/dev/null 2>&1; then echo cargo-web; else echo cargo; fi
-}
-
-install_packages() {
-    apt-get update -qq || return 1
-    local packages=(librust-crc32fast-dev librust-adler32-dev)
-    has_cargo || packages+=("$(cargo_package)")
-    DEBIAN_FRONTEND=noninteractive apt-get install -qq -y "${packages[@]}" >/dev/null
-}
-
-# Installs what is missing where that is allowed; then `lacks` says what still is.
-set_up_judge() {
-    lacks=$(judge_lacks)
-    if [ -n "$lacks" ] && has_papers && [ "$(id -u)" = 0 ] && command -v apt-get >/dev/null; then
-        local began=$SECONDS
-        say "installing Debian's packages"
-        install_packages || say "installing Debian's packages: failed"
-        say "installing Debian's packages: ended after $((SECONDS - began)) s"
-        lacks=$(judge_lacks)
+# How many crates there are to prove: all that crates.txt lists, or the one named and those below it.
+crates_of() {
+    local all
+    all=$(sed -n 's/^\([a-z0-9_]*\):.*/\1/p' crates.txt)
+    if [ $# -eq 0 ]; then
+        wc -w <<<"$all"
+    else
+        { sed -n "s/^$1: *//p" crates.txt | tr ' ' '\n'; echo "$1"; } | grep -cxF "$all"
     fi
-    [ -z "$lacks" ]
 }
 
-# cargo in host/, offline, with Debian's crates in place of the registry.
-cargo_host() {
-    local verb=$1
-    shift
-    (cd host && cargo "$verb" --offline --quiet --release \
-        --config 'source.crates-io.replace-with="debian"' \
-        --config "source.debian.directory=\"$DEBIAN_CRATES\"" "$@")
+# libfeqyondil.a out of the proved exports.
+make_library() {
+    proving "$(crates_of exports)" 0 rt staticlib exports
+    cp target/staticlib/libexports.a "$FEQYONDIL_LIB/libfeqyondil.a"
 }
 
-build_judge() {
-    step "proving the exports and making their static library" rt staticlib exports
-    step "building the oracle and the judge" cargo_host build
-}
+build_library() { step "proving the exports and making their static library" make_library; }

@@ -1,6 +1,7 @@
 /*
  * The header and the library from C: a store is opened, edited and committed until its bank moves,
- * the flash is written as the commits ask, and what is opened again has the values.
+ * the flash is written as the commits ask, and what is opened again has the values. What the header
+ * says of null pointers, of the state's numbers, and of a store after a move and after 12 is tried too.
  */
 #include "feqyondil.h"
 
@@ -17,14 +18,24 @@ static uint8_t flash[FLASH];
 static uint8_t work[BANKS * FEQYONDIL_PART_SIZE];
 static uint8_t state[FEQYONDIL_STATE_SIZE];
 static uint8_t output[FLASH];
+static uint64_t requests[4], found[3], length[1], fields[8];
 
 static const uint8_t key[] = {'r', 'a', 't', 'e'};
+
+#define STORE state, sizeof state, work, sizeof work
+#define KEY key, sizeof key
 
 static void check(int right, const char *what) {
     if (!right) {
         fprintf(stderr, "roundtrip: WRONG: %s\n", what);
         exit(1);
     }
+}
+
+static uint32_t number_at(size_t offset) { return feqyondil_state_number(state, offset); }
+
+static uint32_t entry(uint32_t bank, size_t place) {
+    return number_at(FEQYONDIL_STATE_ENTRIES + FEQYONDIL_ENTRY_SIZE * bank + place);
 }
 
 /* Two banks: a header of this size without limits and no record, then an Empty one. */
@@ -35,61 +46,113 @@ static void format(void) {
     memcpy(flash, header, sizeof header);
 }
 
-/* The erase and the write of a commit, as flash does them; whether there was an erase. */
-static int commit(void) {
-    uint64_t requests[4];
-    uint32_t number = feqyondil_commit(state, sizeof state, work, sizeof work, output, sizeof output, requests);
-    check(number == FEQYONDIL_OK, "commit");
-    check(requests[2] + requests[3] <= FLASH && requests[3] == SIZE, "the write's place");
-    if (requests[0] == 1) {
-        check(requests[1] + FEQYONDIL_BANK_SIZE <= FLASH, "the erase's place");
-        memset(flash + requests[1], 0xFF, FEQYONDIL_BANK_SIZE);
-    }
-    for (uint64_t i = 0; i < requests[3]; i++)
-        flash[requests[2] + i] &= output[i];
-    return requests[0] == 1;
+static void reopen(void) { check(feqyondil_open(flash, sizeof flash, STORE) == FEQYONDIL_OK, "opening"); }
+
+static void insert(uint8_t value) {
+    check(feqyondil_insert(STORE, KEY, &value, 1, FEQYONDIL_SYSTEM) == FEQYONDIL_OK, "insert");
 }
 
-static void reopen(void) {
-    uint32_t number = feqyondil_open(flash, sizeof flash, state, sizeof state, work, sizeof work);
-    check(number == FEQYONDIL_OK, "opening");
+/* The erase and the write of a commit, as flash does them; whether there was an erase. */
+static int commit(void) {
+    uint64_t at, count;
+    check(feqyondil_commit(STORE, output, sizeof output, requests) == FEQYONDIL_OK, "commit");
+    at = requests[FEQYONDIL_WRITE_OFFSET];
+    count = requests[FEQYONDIL_WRITE_LENGTH];
+    check(at + count <= FLASH && count == SIZE, "the write's place");
+    if (requests[FEQYONDIL_ERASE] == 1) {
+        check(requests[FEQYONDIL_ERASE_OFFSET] + FEQYONDIL_BANK_SIZE <= FLASH, "the erase's place");
+        memset(flash + requests[FEQYONDIL_ERASE_OFFSET], 0xFF, FEQYONDIL_BANK_SIZE);
+    }
+    for (uint64_t i = 0; i < count; i++)
+        flash[at + i] &= output[i];
+    return requests[FEQYONDIL_ERASE] == 1;
 }
 
 static void find(uint8_t count) {
-    uint64_t found[3];
     uint8_t value[2] = {0, 7};
-    uint32_t number = feqyondil_lookup(state, sizeof state, work, sizeof work, key, sizeof key,
-                                       FEQYONDIL_SYSTEM, found);
-    check(number == FEQYONDIL_OK && found[0] == 1 && found[2] == 1, "lookup");
-    check(work[found[1]] == count, "the value's place");
-    size_t length = feqyondil_value(state, sizeof state, work, sizeof work, key, sizeof key,
-                                    FEQYONDIL_SYSTEM, value, sizeof value);
-    check(length == 1 && value[0] == count && value[1] == 7, "value");
+    check(feqyondil_lookup(STORE, KEY, FEQYONDIL_SYSTEM, found) == FEQYONDIL_OK, "lookup");
+    check(found[FEQYONDIL_FOUND] == 1 && found[FEQYONDIL_FOUND_LENGTH] == 1, "what is found");
+    check(work[found[FEQYONDIL_FOUND_PLACE]] == count, "the value's place");
+    check(feqyondil_value(STORE, KEY, FEQYONDIL_SYSTEM, value, sizeof value) == 1, "value's length");
+    check(value[0] == count && value[1] == 7, "value");
+}
+
+/* The whole image right after a move, and when the store was opened again. */
+static void moved(uint32_t from) {
+    check(entry(from, FEQYONDIL_ENTRY_TOTAL) > SIZE, "the bank that was left");
+    check(feqyondil_whole_image(STORE, output, FLASH, length) == FEQYONDIL_BANK_OVER, "13 after a move");
+    reopen();
+    check(feqyondil_whole_image(STORE, output, FLASH - 1, length) == FEQYONDIL_OUTPUT_SHORT, "a short output");
+    check(feqyondil_whole_image(STORE, output, FLASH, length) == FEQYONDIL_OK, "whole image");
+}
+
+/* Commits until a bank was erased; answers how many. */
+static unsigned turns(void) {
+    unsigned erases = 0;
+    for (uint8_t count = 1; count <= TURNS; count++) {
+        uint32_t before, active;
+        reopen();
+        before = number_at(FEQYONDIL_STATE_ACTIVE);
+        insert(count);
+        erases += (unsigned)commit();
+        active = number_at(FEQYONDIL_STATE_ACTIVE);
+        check(number_at(FEQYONDIL_STATE_TALLY) == requests[FEQYONDIL_ERASE], "tally");
+        find(count);
+        if (active != before)
+            moved(before);
+        reopen();
+        find(count);
+        check(number_at(FEQYONDIL_STATE_BANKS) == BANKS && number_at(FEQYONDIL_STATE_ACTIVE) == active, "active");
+        check(entry(active, FEQYONDIL_ENTRY_KIND) == FEQYONDIL_KIND_VALID, "kind");
+        check(entry(active, FEQYONDIL_ENTRY_USABLE) == SIZE, "usable");
+    }
+    return erases;
+}
+
+/* After 12 the state has moved, and the flash opens as before. */
+static void over(void) {
+    static const uint8_t long_value[SIZE];
+    uint32_t active = number_at(FEQYONDIL_STATE_ACTIVE);
+    check(feqyondil_insert(STORE, KEY, long_value, SIZE, FEQYONDIL_COMMON) == FEQYONDIL_OK, "a long insert");
+    check(feqyondil_commit(STORE, output, sizeof output, requests) == FEQYONDIL_MOVED_OVER, "12");
+    check(number_at(FEQYONDIL_STATE_ACTIVE) != active, "12 moves");
+    reopen();
+    check(number_at(FEQYONDIL_STATE_ACTIVE) == active, "the flash after 12");
+    find(TURNS);
+}
+
+/* Of every call, each buffer with length 0 and a null pointer. */
+static void nulls(void) {
+    check(feqyondil_crc32(NULL, 0) == 0, "null: checksum");
+    check(feqyondil_partition_parse(NULL, 0, fields) == FEQYONDIL_SLOT_SHORT, "null: parse");
+    check(feqyondil_partition_serialize(NULL, 0, NULL, 0, fields) == FEQYONDIL_SLOT_SHORT, "null: serialize");
+    check(feqyondil_partition_serialize(flash, FLASH, NULL, 0, fields) == FEQYONDIL_SLOT_SHORT, "null: part");
+    check(feqyondil_open(flash, FLASH, NULL, 0, NULL, 0) == FEQYONDIL_NOT_SOUND, "null: state");
+    check(feqyondil_insert(NULL, 0, NULL, 0, NULL, 0, NULL, 0, 0) == FEQYONDIL_NOT_SOUND, "null: insert");
+    check(feqyondil_remove(NULL, 0, NULL, 0, NULL, 0, 0) == FEQYONDIL_NOT_SOUND, "null: remove");
+    check(feqyondil_lookup(NULL, 0, NULL, 0, NULL, 0, 0, found) == FEQYONDIL_NOT_SOUND, "null: lookup");
+    check(feqyondil_value(NULL, 0, NULL, 0, NULL, 0, 0, NULL, 0) == 0, "null: value");
+    check(feqyondil_commit(NULL, 0, NULL, 0, NULL, 0, requests) == FEQYONDIL_NOT_SOUND, "null: commit");
+    check(feqyondil_whole_image(NULL, 0, NULL, 0, NULL, 0, length) == FEQYONDIL_NOT_SOUND, "null: whole image");
+    check(feqyondil_insert(STORE, NULL, 0, NULL, 0, FEQYONDIL_COMMON) == FEQYONDIL_OK, "null: key and value");
+    check(feqyondil_lookup(STORE, NULL, 0, FEQYONDIL_COMMON, found) == FEQYONDIL_OK, "null: key");
+    check(found[FEQYONDIL_FOUND] == 1 && found[FEQYONDIL_FOUND_LENGTH] == 0, "the empty value");
+    check(feqyondil_value(STORE, KEY, FEQYONDIL_SYSTEM, NULL, 0) == 1, "null: out");
+    check(feqyondil_commit(STORE, NULL, 0, requests) == FEQYONDIL_OUTPUT_SHORT, "null: output");
+    check(feqyondil_whole_image(STORE, NULL, 0, length) == FEQYONDIL_OUTPUT_SHORT, "null: image's output");
+    check(feqyondil_commit(state, sizeof state, NULL, 0, output, FLASH, requests) == FEQYONDIL_NOT_SOUND, "null: work");
+    check(feqyondil_remove(STORE, NULL, 0, FEQYONDIL_COMMON) == FEQYONDIL_OK, "null: removed key");
+    check(feqyondil_open(flash, FLASH, state, sizeof state, NULL, 0) == FEQYONDIL_WORK_SHORT, "null: opening's work");
+    check(feqyondil_open(NULL, 0, STORE) == FEQYONDIL_IMAGE_SHORT, "null: image");
 }
 
 int main(void) {
-    unsigned erases = 0;
-    uint64_t length[1];
+    unsigned erases;
     format();
-    reopen();
-    for (uint8_t count = 1; count <= TURNS; count++) {
-        uint32_t number = feqyondil_insert(state, sizeof state, work, sizeof work, key, sizeof key,
-                                           &count, 1, FEQYONDIL_SYSTEM);
-        check(number == FEQYONDIL_OK, "insert");
-        erases += (unsigned)commit();
-        find(count);
-        check(state[8] == erases, "tally");
-        reopen();
-        find(count);
-        state[8] = (uint8_t)erases; /* the opening begins anew */
-    }
+    erases = turns();
     check(erases == 1, "erases");
-    check(feqyondil_whole_image(state, sizeof state, work, sizeof work, output, FLASH - 1, length) ==
-              FEQYONDIL_OUTPUT_SHORT,
-          "a short output");
-    check(feqyondil_whole_image(state, sizeof state, work, sizeof work, output, FLASH, length) == FEQYONDIL_OK &&
-              length[0] == BANKS * SIZE,
-          "whole image");
+    over();
+    nulls();
     printf("roundtrip: %u commits, %u erased a bank, each reopened: right\n", TURNS, erases);
     return 0;
 }

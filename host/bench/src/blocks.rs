@@ -1,13 +1,14 @@
 //! The lookup that the port's is held against: the same comparisons over the same bytes, in
 //! blocks, with the port's checksum. Whatever is not sound is refused, as the port does.
 
+use feqyondil::state::{
+    Kind, ENTRY_KIND, ENTRY_SIZE, ENTRY_TOTAL, ENTRY_USABLE, STATE_ACTIVE, STATE_BANKS,
+    STATE_ENTRIES,
+};
+use feqyondil::{Tables, BANKS_MAX, PART_SIZE, STATE_SIZE};
 use image::{is_erased, number, BANK, HEADER, RECORD, SYSTEM_GUID};
-use port::lent::{PART, STATE};
-use port::Tables;
 
-/// Entries of the state's table, and the number of a Valid one's kind.
-const ENTRIES: usize = 16;
-const VALID: u32 = 2;
+const VALID: u32 = Kind::Valid as u32;
 
 /// Place and length of the first live value; `Err` with a refusal's number.
 #[inline(never)]
@@ -21,34 +22,37 @@ pub fn lookup(
     if !is_sound(tables, state, work) {
         return Err(6);
     }
-    let active = number(state, 4) as usize;
+    let active = number(state, STATE_ACTIVE) as usize;
     let [kind, total, _] = entry(state, active);
     if kind != VALID {
         return Err(7);
     }
-    let at = active * PART;
+    let at = active * PART_SIZE;
     let found = find(&work[at..at + total as usize], key, system);
     Ok(found.map(|(place, length)| (at + place, length)))
 }
 
 fn entry(state: &[u8], i: usize) -> [u32; 3] {
-    let at = 12 + 12 * i;
-    [0, 4, 8].map(|field| number(state, at + field))
+    let at = STATE_ENTRIES + ENTRY_SIZE * i;
+    [ENTRY_KIND, ENTRY_TOTAL, ENTRY_USABLE].map(|field| number(state, at + field))
 }
 
 fn is_sound(tables: &Tables, state: &[u8], work: &[u8]) -> bool {
-    if state.len() < STATE {
+    if state.len() < STATE_SIZE {
         return false;
     }
-    let (n, active) = (number(state, 0) as usize, number(state, 4) as usize);
-    if !(1..=ENTRIES).contains(&n) || active >= n || work.len() < n * PART {
+    let (n, active) = (
+        number(state, STATE_BANKS) as usize,
+        number(state, STATE_ACTIVE) as usize,
+    );
+    if !(1..=BANKS_MAX).contains(&n) || active >= n || work.len() < n * PART_SIZE {
         return false;
     }
-    (0..ENTRIES).all(|i| match entry(state, i) {
+    (0..BANKS_MAX).all(|i| match entry(state, i) {
         entry if i >= n => entry == [0, 0, 0],
-        [0 | 1, 0, 0] => is_erased(&work[i * PART..(i + 1) * PART]),
+        [0 | 1, 0, 0] => is_erased(&work[i * PART_SIZE..(i + 1) * PART_SIZE]),
         [VALID, total, usable] => {
-            let part = &work[i * PART..(i + 1) * PART];
+            let part = &work[i * PART_SIZE..(i + 1) * PART_SIZE];
             is_bank(tables, part, total as usize, usable as usize)
         }
         _ => false,
@@ -59,7 +63,7 @@ fn is_bank(tables: &Tables, part: &[u8], total: usize, usable: usize) -> bool {
     let size = number(part, 4) as usize;
     let header = part[..4] == *b"3VVN" && part[14..16] == [1, 0];
     let figures = (HEADER..=BANK).contains(&size) && (HEADER..=size).contains(&usable);
-    if !header || !figures || !(HEADER..=PART).contains(&total) {
+    if !header || !figures || !(HEADER..=PART_SIZE).contains(&total) {
         return false;
     }
     let mut at = HEADER;
@@ -106,21 +110,23 @@ fn find(used: &[u8], key: &[u8], system: bool) -> Option<(usize, usize)> {
 #[cfg(test)]
 mod tests {
     use super::*;
+    use feqyondil::{Store, VarType, CRC32_TABLE_ENTRIES};
     use image::{Header, Record};
-    use port::{Store, VarType};
 
-    fn store() -> Store {
+    fn store(work: &mut [u8]) -> Store<'_> {
         let records = [
             Record::live(b"a", b"1"),
             Record::live(b"rate", b"123456789"),
         ];
         let bank = image::bank(&Header::default(), &records);
-        Store::open(&[bank, vec![0xFF; BANK], vec![0; BANK]].concat()).unwrap()
+        let image = [bank, vec![0xFF; BANK], vec![0; BANK]].concat();
+        Store::open(&image, work).unwrap()
     }
 
     #[test]
     fn it_finds_what_the_port_finds() {
-        let (tables, store) = (Tables::new(), store());
+        let (mut entries, mut work) = ([0; CRC32_TABLE_ENTRIES], vec![0; 3 * PART_SIZE]);
+        let (tables, store) = (Tables::new(&mut entries), store(&mut work));
         for (key, typ) in [
             (&b"rate"[..], VarType::System),
             (b"a", VarType::System),
@@ -136,7 +142,8 @@ mod tests {
 
     #[test]
     fn it_looks_at_every_byte_that_has_no_say() {
-        let (tables, store) = (Tables::new(), store());
+        let (mut entries, mut work) = ([0; CRC32_TABLE_ENTRIES], vec![0; 3 * PART_SIZE]);
+        let (tables, store) = (Tables::new(&mut entries), store(&mut work));
         let refused = |state: &[u8], work: &[u8]| {
             let found = lookup(&tables, state, work, b"a", true);
             assert_eq!(found, Err(6));
@@ -148,10 +155,10 @@ mod tests {
             32,
             61,
             62,
-            PART - 1,
-            PART,
-            2 * PART - 1,
-            3 * PART - 1,
+            PART_SIZE - 1,
+            PART_SIZE,
+            2 * PART_SIZE - 1,
+            3 * PART_SIZE - 1,
         ] {
             let mut work = store.work().to_vec();
             work[at] ^= 1;

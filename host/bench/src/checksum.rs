@@ -1,5 +1,7 @@
 //! The checksum at the lengths of a value, of a few records and of a bank.
 
+use feqyondil::{Tables, CRC32_TABLE_ENTRIES};
+
 use crate::bytewise;
 use crate::measure::{measure, Contender, Effort, Figures};
 
@@ -43,13 +45,14 @@ const BARS: [Bar; 3] = [
 pub fn run(effort: Effort) {
     println!("bench: checksum: CRC-32 of one buffer, call after call, so its bytes are in cache");
     println!("bench: medians of the rounds; 'x scalar' is the time over crc32fast's scalar path");
-    let tables = port::Tables::new();
+    let mut entries = Box::new([0; CRC32_TABLE_ENTRIES]);
+    let tables = Tables::new(&mut entries);
     let lent = |data: &[u8]| tables.crc32(data);
     let contenders = [
         contender("Rust crc32fast, SIMD where there is any", &crc32fast::hash),
         contender("Rust crc32fast, scalar", &scalar),
         contender("Rust byte at a time, static table", &bytewise::crc32),
-        contender("port, makes its tables", &port::crc32),
+        contender("port, makes its tables", &feqyondil::crc32),
         contender("port, tables lent", &lent),
     ];
     let mut bars = Vec::new();

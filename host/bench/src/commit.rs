@@ -196,7 +196,7 @@ mod tests {
                 let bank = peek::active_bank(&mut store);
                 assert_eq!(bank.header.generation, generation);
                 assert_eq!(bank.values.len(), case.records.len());
-                let at = lent.active() * port::lent::PART;
+                let at = lent.active() * feqyondil::PART_SIZE;
                 assert_eq!(image::number(&lent.work, at + 8), generation);
                 let total = bank.values.iter().map(|v| v.key.len() + v.value.len() + 37);
                 let total = HEADER + total.sum::<usize>();

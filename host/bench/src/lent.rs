@@ -1,14 +1,17 @@
 //! The port's calls; edits are undone after each.
 
-use image::{number, put_number, Record, BANK, RECORD};
-use port::lent::{PART, STATE};
+use feqyondil::state::{
+    number, ENTRY_SIZE, ENTRY_TOTAL, ENTRY_USABLE, STATE_ACTIVE, STATE_ENTRIES,
+};
+use feqyondil::{PART_SIZE, STATE_SIZE};
+use image::{put_number, Record, BANK, RECORD};
 
 /// What an insert puts in the place of the last record's value.
 pub const VALUE: &[u8] = b"another value of 19";
 
 /// State and work area, lent to the port call after call.
 pub struct Lent {
-    pub state: [u8; STATE],
+    pub state: [u8; STATE_SIZE],
     pub work: Vec<u8>,
     /// For a commit or a whole image.
     pub output: Vec<u8>,
@@ -20,8 +23,8 @@ pub struct Lent {
 impl Lent {
     pub fn new(banks: usize, last: &Record) -> Self {
         Lent {
-            state: [0; STATE],
-            work: vec![0; banks * PART],
+            state: [0; STATE_SIZE],
+            work: vec![0; banks * PART_SIZE],
             output: vec![0; banks * BANK],
             last: last.bytes().len(),
             end: 0,
@@ -30,35 +33,40 @@ impl Lent {
 
     /// Answers 1 if it was opened.
     pub fn open(&mut self, image: &[u8]) -> u32 {
-        let answer = port::lent::open(image, &mut self.state, &mut self.work);
-        self.end = self.active() * PART + self.total();
+        let answer = feqyondil::lent::open(image, &mut self.state, &mut self.work);
+        self.end = self.active() * PART_SIZE + self.total();
         u32::from(answer == 0)
     }
 
     pub fn active(&self) -> usize {
-        number(&self.state, 4) as usize
+        number(&self.state, STATE_ACTIVE) as usize
     }
 
     /// Of the active bank.
     pub fn total(&self) -> usize {
-        number(&self.state, 16 + 12 * self.active()) as usize
+        number(&self.state, self.entry() + ENTRY_TOTAL) as usize
+    }
+
+    /// Where the active bank's entry is.
+    fn entry(&self) -> usize {
+        STATE_ENTRIES + ENTRY_SIZE * self.active()
     }
 
     /// Answers the value's place, which is not 0.
     pub fn lookup(&self, key: &[u8]) -> u32 {
         let mut out = [0; 3];
-        port::lent::lookup(&self.state, &self.work, key, 1, &mut out);
+        feqyondil::lent::lookup(&self.state, &self.work, key, 1, &mut out);
         out[1] as u32
     }
 
     /// Answers 1 if the last record was killed; takes the insert back.
     pub fn insert(&mut self, key: &[u8]) -> u32 {
         let before = self.state;
-        port::lent::insert(&mut self.state, &mut self.work, key, VALUE, 1);
+        feqyondil::lent::insert(&mut self.state, &mut self.work, key, VALUE, 1);
         self.take_back(key, before)
     }
 
-    fn take_back(&mut self, key: &[u8], before: [u8; STATE]) -> u32 {
+    fn take_back(&mut self, key: &[u8], before: [u8; STATE_SIZE]) -> u32 {
         let len = RECORD + key.len() + 1 + VALUE.len();
         self.work[self.end..self.end + len].fill(0xFF);
         self.state = before;
@@ -66,7 +74,7 @@ impl Lent {
     }
 
     pub fn remove(&mut self, key: &[u8]) -> u32 {
-        port::lent::remove(&self.state, &mut self.work, key, 1);
+        feqyondil::lent::remove(&self.state, &mut self.work, key, 1);
         self.revive()
     }
 
@@ -74,28 +82,28 @@ impl Lent {
     pub fn commit(&mut self) -> u32 {
         let mut requests = [0; 4];
         let (state, work) = (&mut self.state, &mut self.work);
-        let number = port::lent::commit(state, work, &mut self.output, &mut requests);
+        let number = feqyondil::lent::commit(state, work, &mut self.output, &mut requests);
         u32::from(number == 0)
     }
 
     /// Inserts over the last record, commits, and takes the insert back.
     pub fn insert_commit(&mut self, key: &[u8]) -> u32 {
         let before = self.state;
-        port::lent::insert(&mut self.state, &mut self.work, key, VALUE, 1);
+        feqyondil::lent::insert(&mut self.state, &mut self.work, key, VALUE, 1);
         self.commit() & self.take_back(key, before)
     }
 
     /// With one byte less usable than there are records, which makes the bank move.
     pub fn commit_moved(&mut self) -> u32 {
-        let (entry, total) = (12 + 12 * self.active(), self.total());
-        put_number(&mut self.state, entry + 8, total as u32 - 1);
+        let (usable, total) = (self.entry() + ENTRY_USABLE, self.total());
+        put_number(&mut self.state, usable, total as u32 - 1);
         self.commit()
     }
 
     /// Answers the length.
     pub fn whole(&mut self) -> u32 {
         let mut length = [0];
-        port::lent::whole_image(&self.state, &self.work, &mut self.output, &mut length);
+        feqyondil::lent::whole_image(&self.state, &self.work, &mut self.output, &mut length);
         length[0] as u32
     }
 

@@ -53,12 +53,14 @@ pub fn run(effort: Effort) {
     println!("bench: bank: one bank, call after call; 'x Rust' is the time over the Rust's parse");
     let part = RefCell::new(vec![0; BANK]);
     let serialize = |bank: &[u8]| {
-        let slot = port::partition_serialize(bank, &mut part.borrow_mut());
+        let slot = feqyondil::partition_serialize(bank, &mut part.borrow_mut());
         is_valid(slot)
     };
     let contenders = [
         contender("Rust parse", &rust_parse),
-        contender("port parse", &|bank| is_valid(port::partition_parse(bank))),
+        contender("port parse", &|bank| {
+            is_valid(feqyondil::partition_parse(bank))
+        }),
         contender("Rust parse and serialize", &rust_serialize),
         contender("port serialize, which parses", &serialize),
         contender("Rust crc32fast, SIMD, value alone", &|bank| {
@@ -99,8 +101,8 @@ fn rust_serialize(bank: &[u8]) -> u32 {
     written.map_or(0, |bytes| bytes.len() as u32)
 }
 
-fn is_valid(slot: port::Slot) -> u32 {
-    u32::from(matches!(slot, port::Slot::Valid(_)))
+fn is_valid(slot: feqyondil::Slot) -> u32 {
+    u32::from(matches!(slot, feqyondil::Slot::Valid(_)))
 }
 
 /// The value of the large record, whose key is empty.
@@ -181,7 +183,7 @@ mod tests {
         for case in cases() {
             let bank = image::bank(&Header::default(), &case.records);
             assert_eq!(rust_parse(&bank), 1, "{}", case.name);
-            assert_eq!(is_valid(port::partition_parse(&bank)), 1);
+            assert_eq!(is_valid(feqyondil::partition_parse(&bank)), 1);
             assert_eq!(rust_serialize(&bank), BANK as u32);
         }
     }

@@ -3,9 +3,9 @@
 use std::borrow::Cow;
 use std::cell::RefCell;
 
+use feqyondil::{Tables, CRC32_TABLE_ENTRIES};
 use image::{Header, Record, BANK, HEADER};
 use oracle::{v3, Partition};
-use port::Tables;
 
 use crate::blocks;
 use crate::lent::{Lent, VALUE};
@@ -102,7 +102,8 @@ fn lookups(case: &Case, effort: Effort) -> String {
     let image = case.image();
     let lent = case.opened(&image);
     let store = RefCell::new(v3::Nvram::parse(&image).expect("Valid banks"));
-    let tables = Tables::new();
+    let mut entries = Box::new([0; CRC32_TABLE_ENTRIES]);
+    let tables = Tables::new(&mut entries);
     let in_blocks = |key: &[u8]| {
         let found = blocks::lookup(&tables, &lent.state, &lent.work, key, true);
         found.map_or(0, |found| found.map_or(0, |(place, _)| place as u32))
@@ -205,7 +206,9 @@ mod tests {
                 assert_eq!((lent.insert(key), lent.remove(key)), (1, 1));
                 assert!((&lent.state, &lent.work) == (&state, &work));
             }
-            let found = blocks::lookup(&Tables::new(), &state, &work, key, true);
+            let mut entries = [0; CRC32_TABLE_ENTRIES];
+            let tables = Tables::new(&mut entries);
+            let found = blocks::lookup(&tables, &state, &work, key, true);
             let (place, _) = found.unwrap().unwrap();
             assert_eq!(lent.lookup(key), place as u32);
             let mut store = v3::Nvram::parse(&image).unwrap();

@@ -1,7 +1,7 @@
 //! The port's reading of a bank: both calls, and all that they are to leave alone.
 
+use feqyondil::{partition_parse, partition_serialize};
 use image::{is_erased, BANK};
-use port::{partition_parse, partition_serialize};
 
 use super::view::{Bank, Header, Slot};
 use super::written;
@@ -71,7 +71,7 @@ fn short_calls(image: &[u8], how: Lending, part: &mut [u8]) -> Result<(), String
         partition_serialize(&image[..how.short], part),
         partition_serialize(&image[..how.nvr], &mut part[..how.short]),
     ];
-    if answers == [port::Slot::Short; 3] {
+    if answers == [feqyondil::Slot::Short; 3] {
         return Ok(());
     }
     Err(format!("with {} bytes it answers {answers:?}", how.short))
@@ -86,30 +86,30 @@ fn untouched(bytes: &[u8]) -> Result<(), String> {
     Err("it wrote where it was not to".to_string())
 }
 
-fn view(slot: port::Slot, part: &[u8]) -> Result<Slot<'_>, String> {
+fn view(slot: feqyondil::Slot, part: &[u8]) -> Result<Slot<'_>, String> {
     let bank = match slot {
-        port::Slot::Short => return Err("it answers Short".to_string()),
-        port::Slot::Empty => return erased(part, Slot::Empty),
-        port::Slot::Invalid => return erased(part, Slot::Invalid),
-        port::Slot::Valid(bank) => bank,
+        feqyondil::Slot::Short => return Err("it answers Short".to_string()),
+        feqyondil::Slot::Empty => return erased(part, Slot::Empty),
+        feqyondil::Slot::Invalid => return erased(part, Slot::Invalid),
+        feqyondil::Slot::Valid(bank) => bank,
     };
     let told = Header {
         size: bank.size,
         generation: bank.generation,
         state: bank.state,
         flags: bank.flags,
-        system_limit: bank.system_size,
-        common_limit: bank.common_size,
+        system_limit: bank.system_limit,
+        common_limit: bank.common_limit,
     };
-    let (header, records) = written::read(part, bank.total_used)?;
+    let (header, records) = written::read(part, bank.total)?;
     if header != told {
         return Err(format!("it writes {header} and answers {told}"));
     }
     Ok(Slot::Valid(Bank {
         header,
         records,
-        total: bank.total_used,
-        usable: bank.usable_size,
+        total: bank.total,
+        usable: bank.usable,
     }))
 }
 
@@ -137,8 +137,8 @@ mod tests {
         let mut part = image::bank(&image::Header::default(), &[]);
         let answered = partition_parse(&part);
         assert!(view(answered, &part).is_ok());
-        assert!(view(port::Slot::Empty, &part).is_err());
-        assert!(view(port::Slot::Short, &part).is_err());
+        assert!(view(feqyondil::Slot::Empty, &part).is_err());
+        assert!(view(feqyondil::Slot::Short, &part).is_err());
         part[8] = 2; // the generation
         assert!(view(answered, &part).is_err());
     }

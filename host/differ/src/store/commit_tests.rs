@@ -226,7 +226,7 @@ struct WholeBanks;
 
 impl Calls for WholeBanks {
     fn whole(&self, state: &[u8], work: &[u8], out: &mut [u8], length: &mut [u64; 1]) -> u32 {
-        let number = port::lent::whole_image(state, work, out, length);
+        let number = feqyondil::lent::whole_image(state, work, out, length);
         if number == 0 {
             length[0] = BANK as u64;
         }

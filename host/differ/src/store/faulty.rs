@@ -39,7 +39,7 @@ pub struct Faulty<F>(pub F);
 impl<F: Fn(&mut Committed)> Calls for Faulty<F> {
     fn commit(&self, state: &mut [u8], work: &mut [u8], out: &mut [u8], asked: &mut Asked) -> u32 {
         let before = (state.to_vec(), work.to_vec());
-        let number = port::lent::commit(state, work, out, asked);
+        let number = feqyondil::lent::commit(state, work, out, asked);
         let mut done = Committed {
             before,
             state,

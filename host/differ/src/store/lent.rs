@@ -10,31 +10,31 @@ const BEFORE: u8 = 0xA5;
 /// The seven calls; the tests plant faults here.
 pub trait Calls {
     fn open(&self, image: &[u8], state: &mut [u8], work: &mut [u8]) -> u32 {
-        port::lent::open(image, state, work)
+        feqyondil::lent::open(image, state, work)
     }
 
     fn insert(&self, state: &mut [u8], work: &mut [u8], key: &[u8], value: &[u8], typ: u32) -> u32 {
-        port::lent::insert(state, work, key, value, typ)
+        feqyondil::lent::insert(state, work, key, value, typ)
     }
 
     fn remove(&self, state: &[u8], work: &mut [u8], key: &[u8], typ: u32) -> u32 {
-        port::lent::remove(state, work, key, typ)
+        feqyondil::lent::remove(state, work, key, typ)
     }
 
     fn lookup(&self, state: &[u8], work: &[u8], key: &[u8], typ: u32, out: &mut [u64; 3]) -> u32 {
-        port::lent::lookup(state, work, key, typ, out)
+        feqyondil::lent::lookup(state, work, key, typ, out)
     }
 
     fn value(&self, state: &[u8], work: &[u8], key: &[u8], typ: u32, out: &mut [u8]) -> usize {
-        port::lent::value(state, work, key, typ, out)
+        feqyondil::lent::value(state, work, key, typ, out)
     }
 
     fn commit(&self, state: &mut [u8], work: &mut [u8], out: &mut [u8], asked: &mut Asked) -> u32 {
-        port::lent::commit(state, work, out, asked)
+        feqyondil::lent::commit(state, work, out, asked)
     }
 
     fn whole(&self, state: &[u8], work: &[u8], out: &mut [u8], length: &mut [u64; 1]) -> u32 {
-        port::lent::whole_image(state, work, out, length)
+        feqyondil::lent::whole_image(state, work, out, length)
     }
 }
 

@@ -39,7 +39,7 @@ struct FirstWins;
 
 impl Calls for FirstWins {
     fn open(&self, image: &[u8], state: &mut [u8], work: &mut [u8]) -> u32 {
-        let number = port::lent::open(image, state, work);
+        let number = feqyondil::lent::open(image, state, work);
         let mut told = State::read(state).unwrap();
         let first = told.entries.iter().position(|e| e.kind == VALID);
         let zero = first.map(|i| image::number(work, i * PART + 8) == 0);
@@ -56,7 +56,7 @@ struct WritesFirst;
 
 impl Calls for WritesFirst {
     fn open(&self, image: &[u8], state: &mut [u8], work: &mut [u8]) -> u32 {
-        let number = port::lent::open(image, state, work);
+        let number = feqyondil::lent::open(image, state, work);
         if number == 4 {
             work[0] = 0xFF;
         }
@@ -70,7 +70,7 @@ struct KillsOne;
 impl Calls for KillsOne {
     fn remove(&self, state: &[u8], work: &mut [u8], key: &[u8], typ: u32) -> u32 {
         let before = work.to_vec();
-        let number = port::lent::remove(state, work, key, typ);
+        let number = feqyondil::lent::remove(state, work, key, typ);
         let mut changed = (0..work.len()).filter(|&i| work[i] != before[i]);
         changed.next();
         let later: Vec<usize> = changed.collect();
@@ -89,7 +89,7 @@ impl Calls for FullEarly {
         if total + 37 + key.len() + value.len() == PART {
             return 8;
         }
-        port::lent::insert(state, work, key, value, typ)
+        feqyondil::lent::insert(state, work, key, value, typ)
     }
 }
 
@@ -98,7 +98,7 @@ struct FindsNothing;
 
 impl Calls for FindsNothing {
     fn lookup(&self, state: &[u8], work: &[u8], key: &[u8], typ: u32, out: &mut [u64; 3]) -> u32 {
-        let number = port::lent::lookup(state, work, key, typ, out);
+        let number = feqyondil::lent::lookup(state, work, key, typ, out);
         out[0] |= u64::from(number == 0);
         number
     }
@@ -112,7 +112,7 @@ impl Calls for SkipsEntries {
         let mut told = State::read(state).unwrap();
         let n = (told.n as usize).min(ENTRIES);
         told.entries[n..].fill(Default::default());
-        port::lent::lookup(&told.bytes(), work, key, typ, out)
+        feqyondil::lent::lookup(&told.bytes(), work, key, typ, out)
     }
 }
 

@@ -1,48 +1,73 @@
-//! The port's `Store`: the same answers in its own types.
+//! `Store`: the same answers in its own types.
 
-use image::BANK;
-use port::{Commit, NotCommitted, Refusal, Store, VarType};
+use feqyondil::{Kind, NotCommitted, Refusal, Store, VarType};
 
-use super::book::PART;
-use super::call::{lent, Answer, Call, What};
+use super::book::Book;
+use super::call::{Answer, Call, What, ROOM};
 use super::run::Run;
 use super::same::{same_state, same_work};
+use super::state::{Entry, State, EMPTY, ENTRIES, INVALID, VALID};
 
 /// Runs it by `Store` and holds it against 01, which the calls behind it are held against too.
 pub fn compare(run: &Run) -> Result<(), String> {
-    let mut said = super::book::Book::open(&run.image, usize::MAX);
-    let mut store = match (Store::open(&run.image), &said) {
-        (Ok(store), Ok(_)) => store,
-        (Err(refusal), Err(number)) if refusal.number() == *number => return Ok(()),
-        (store, said) => {
-            let (store, said) = (store.err(), said.as_ref().err());
+    let before = vec![ROOM; run.work()];
+    let mut work = before.clone();
+    let said = Book::open(&run.image, work.len());
+    let (mut book, mut store) = match (said, Store::open(&run.image, &mut work)) {
+        (Ok(book), Ok(store)) => (book, store),
+        (Err(number), Err(refusal)) if refusal.number() == number => {
+            return same_work(&before, &work, "`Store`");
+        }
+        (said, store) => {
+            let (store, said) = (store.err(), said.err());
             return Err(format!("`Store` opens with {store:?}, 01 with {said:?}"));
         }
     };
-    let Ok(book) = &mut said else {
-        return Ok(());
-    };
-    let whole = store.work().len() / PART * BANK;
+    same_told(&book.state(), &store)?;
     for call in &run.calls {
-        let call = &with_room(call, whole);
         let (said, answer) = (book.answer(call), ask(&mut store, call));
         if said != answer {
             return Err(format!("{call}\n  01:      {said}\n  `Store`: {answer}"));
         }
+        same_told(&book.state(), &store).map_err(|fault| format!("{call}{fault}"))?;
     }
     same_state(&book.state().bytes(), store.state(), "`Store`")?;
-    same_work(&book.work(), store.work(), "`Store`")
+    let mut said = book.work();
+    said.extend(&before[said.len()..]);
+    same_work(&said, store.work(), "`Store`")
 }
 
-/// `Store` makes its outputs itself, long enough.
-fn with_room(call: &Call, whole: usize) -> Call {
-    let mut call = call.clone();
-    match &mut call.what {
-        What::Commit(room) => *room = BANK,
-        What::Whole(room) => *room = whole,
-        _ => {}
+/// What `Store` tells of its state, number by number; of a bank behind the last, nothing.
+fn same_told(said: &State, store: &Store) -> Result<(), String> {
+    let mut told = State {
+        n: store.banks() as u32,
+        active: store.active() as u32,
+        tally: store.tally(),
+        ..State::default()
+    };
+    for i in 0..=ENTRIES {
+        let bank = store.bank(i);
+        if bank.is_some() != (i < said.n as usize) {
+            return Err(format!("\n  `Store` tells {bank:?} of bank {i}"));
+        }
+        if let Some(bank) = bank {
+            told.entries[i] = entry(bank);
+        }
     }
-    call
+    same_state(&said.bytes(), &told.bytes(), "`Store`")
+}
+
+fn entry(bank: feqyondil::Entry) -> Entry {
+    let kind = match bank.kind {
+        Kind::Empty => EMPTY,
+        Kind::Invalid => INVALID,
+        Kind::Valid => VALID,
+    };
+    Entry {
+        kind,
+        total: bank.total as u32,
+        usable: bank.usable as u32,
+    }
 }
 
 fn ask(store: &mut Store, call: &Call) -> Answer {
@@ -57,35 +82,42 @@ fn ask(store: &mut Store, call: &Call) -> Answer {
         What::Remove => number(store.remove(&call.key, typ)),
         What::Lookup => found(store, call, typ),
         What::Value(room) => {
-            let mut out = lent(*room, &[]);
+            let mut out = vec![ROOM; *room];
             let length = store.value(&call.key, typ, &mut out);
             Answer::Value(length, out)
         }
-        What::Commit(room) => committed(store.commit(), *room),
-        What::Whole(room) => match store.whole_image() {
-            Ok(bytes) => Answer::Whole(0, bytes.len() as u64, lent(*room, &bytes)),
-            Err(refusal) => call.refused(refusal.number()),
-        },
+        What::Commit(room) => committed(store, vec![ROOM; *room]),
+        What::Whole(room) => whole(store, vec![ROOM; *room]),
     }
 }
 
-fn committed(done: Result<Commit, NotCommitted>, room: usize) -> Answer {
-    let asked = |erase: Option<usize>| [u64::from(erase.is_some()), erase.unwrap_or(0) as u64];
-    let (number, erase, write, bytes) = match done {
-        Ok(done) => {
-            let write = [done.offset as u64, done.bytes.len() as u64];
-            (0, asked(done.erase), write, done.bytes)
-        }
+fn committed(store: &mut Store, mut out: Vec<u8>) -> Answer {
+    let (number, erase, offset, bytes) = match store.commit(&mut out) {
+        Ok(done) => (0, done.erase, done.offset, done.bytes.to_vec()),
         Err(refused) => {
             let erase = match refused {
                 NotCommitted::Moved { erase } => erase,
                 NotCommitted::Refused(_) => None,
             };
-            (refused.refusal().number(), asked(erase), [0, 0], Vec::new())
+            (refused.refusal().number(), erase, 0, Vec::new())
         }
     };
-    let requests = [erase[0], erase[1], write[0], write[1]];
-    Answer::Commit(number, requests, lent(room, &bytes))
+    let asked = [usize::from(erase.is_some()), erase.unwrap_or(0)];
+    let requests = [asked[0], asked[1], offset, bytes.len()].map(|n| n as u64);
+    Answer::Commit(number, requests, over(out, &bytes))
+}
+
+fn whole(store: &Store, mut out: Vec<u8>) -> Answer {
+    match store.whole_image(&mut out).map(<[u8]>::to_vec) {
+        Ok(bytes) => Answer::Whole(0, bytes.len() as u64, over(out, &bytes)),
+        Err(refusal) => Answer::Whole(refusal.number(), 0, out),
+    }
+}
+
+/// The output with the bytes that were handed back at its front, where they are to be already.
+fn over(mut out: Vec<u8>, bytes: &[u8]) -> Vec<u8> {
+    out[..bytes.len()].copy_from_slice(bytes);
+    out
 }
 
 fn found(store: &Store, call: &Call, typ: VarType) -> Answer {

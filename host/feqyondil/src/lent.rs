@@ -1,11 +1,7 @@
 //! The store's calls on lent bytes, with the numbers that they answer.
 //!
-//! `Store` is what a program uses; these take any bytes at all, and refuse what is not sound.
-
-/// Bytes of a state.
-pub const STATE: usize = 204;
-/// Bytes of work area for each bank.
-pub const PART: usize = 131_072;
+//! [`Store`](crate::Store) is what a program uses. These take any bytes at all, refuse what is not
+//! sound, and do as include/feqyondil.h says.
 
 extern "C" {
     fn feqyondil_open(
@@ -44,7 +40,7 @@ extern "C" {
         key: *const u8,
         key_len: usize,
         typ: u32,
-        out: *mut [u64; 3],
+        found: *mut [u64; 3],
     ) -> u32;
     fn feqyondil_value(
         state: *const u8,
@@ -78,8 +74,8 @@ extern "C" {
 }
 
 // SAFETY: of each call below, every pointer and length are those of one live slice; what the
-// port writes is lent for writing, so it is apart from everything else that is lent; an
-// array has the length that the port writes.
+// library writes is lent for writing, so it is apart from everything else that is lent; an
+// array has the length that the library writes.
 
 /// Opens `image`: 0, or a refusal from 1 to 4; 6 where `state` is too short.
 pub fn open(image: &[u8], state: &mut [u8], work: &mut [u8]) -> u32 {
@@ -113,13 +109,13 @@ pub fn remove(state: &[u8], work: &mut [u8], key: &[u8], typ: u32) -> u32 {
     unsafe { feqyondil_remove(state, state_len, work, work_len, key, key_len, typ) }
 }
 
-/// Looks a value up: 0, 6 or 7; `out` becomes found (1 or 0), place in `work`, length.
-pub fn lookup(state: &[u8], work: &[u8], key: &[u8], typ: u32, out: &mut [u64; 3]) -> u32 {
+/// Looks a value up: 0, 6 or 7; `found` becomes 1 or 0, its place in `work`, its length.
+pub fn lookup(state: &[u8], work: &[u8], key: &[u8], typ: u32, found: &mut [u64; 3]) -> u32 {
     let (state, state_len) = (state.as_ptr(), state.len());
     let (work, work_len) = (work.as_ptr(), work.len());
     let (key, key_len) = (key.as_ptr(), key.len());
     // SAFETY: as above.
-    unsafe { feqyondil_lookup(state, state_len, work, work_len, key, key_len, typ, out) }
+    unsafe { feqyondil_lookup(state, state_len, work, work_len, key, key_len, typ, found) }
 }
 
 /// The value's length, 0 where there is none; the value goes over `out` as far as it reaches.

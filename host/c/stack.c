@@ -1,0 +1,105 @@
+/*
+ * How much stack each call takes: each runs on a stack of its own, filled with one byte before, and
+ * what it wrote over is counted; first on a bank that is nearly empty, then on one that is full, whose
+ * commit moves. Fails where a call takes more than docs/USING.md says.
+ */
+#define _XOPEN_SOURCE 700
+
+#include "feqyondil.h"
+
+#include <stdio.h>
+#include <string.h>
+#include <ucontext.h>
+
+#define MOST 19456u /* docs/USING.md, 'Memory' */
+#define STACK 262144u
+#define FILLED 0xA5
+#define BANKS 2u
+
+static uint8_t stack[STACK];
+static uint8_t flash[BANKS * FEQYONDIL_BANK_SIZE];
+static uint8_t work[BANKS * FEQYONDIL_PART_SIZE];
+static uint8_t state[FEQYONDIL_STATE_SIZE];
+static uint8_t output[sizeof flash];
+static uint8_t value[1024];
+static uint32_t tables[FEQYONDIL_CRC32_TABLE_ENTRIES];
+static uint64_t numbers[8];
+static uint32_t answer;
+static ucontext_t caller, called;
+
+#define STORE state, sizeof state, work, sizeof work
+#define KEY value, 4
+
+static void crc32(void) { answer = feqyondil_crc32(flash, sizeof flash); }
+static void crc32_tables(void) { feqyondil_crc32_tables(tables); }
+static void crc32_with(void) { answer = feqyondil_crc32_with(tables, flash, sizeof flash); }
+static void partition_parse(void) { answer = feqyondil_partition_parse(flash, sizeof flash, numbers); }
+static void partition_serialize(void) {
+    answer = feqyondil_partition_serialize(flash, sizeof flash, output, sizeof output, numbers);
+}
+static void open_store(void) { answer = feqyondil_open(flash, sizeof flash, STORE); }
+static void insert(void) { answer = feqyondil_insert(STORE, KEY, value, sizeof value, FEQYONDIL_SYSTEM); }
+static void remove_key(void) { answer = feqyondil_remove(STORE, KEY, FEQYONDIL_SYSTEM); }
+static void lookup(void) { answer = feqyondil_lookup(STORE, KEY, FEQYONDIL_SYSTEM, numbers); }
+static void fetch(void) { answer = (uint32_t)feqyondil_value(STORE, KEY, FEQYONDIL_SYSTEM, output, sizeof output); }
+static void commit(void) { answer = feqyondil_commit(STORE, output, sizeof output, numbers); }
+static void whole_image(void) { answer = feqyondil_whole_image(STORE, output, sizeof output, numbers); }
+
+static const struct {
+    const char *name;
+    void (*call)(void);
+} calls[] = {
+    {"crc32_tables", crc32_tables},
+    {"crc32", crc32},
+    {"crc32_with", crc32_with},
+    {"partition_parse", partition_parse},
+    {"partition_serialize", partition_serialize},
+    {"open", open_store},
+    {"insert", insert},
+    {"lookup", lookup},
+    {"value", fetch},
+    {"whole_image", whole_image},
+    {"commit", commit},
+    {"remove", remove_key},
+};
+
+/* The stack is used from its end downward. */
+static size_t used_by(void (*call)(void)) {
+    size_t left = 0;
+    memset(stack, FILLED, sizeof stack);
+    getcontext(&called);
+    called.uc_stack.ss_sp = stack;
+    called.uc_stack.ss_size = sizeof stack;
+    called.uc_link = &caller;
+    makecontext(&called, call, 0);
+    swapcontext(&caller, &called);
+    while (left < sizeof stack && stack[left] == FILLED)
+        left++;
+    return sizeof stack - left;
+}
+
+int main(void) {
+    static const uint8_t header[24] = {'3', 'V', 'V', 'N', 0, 0, 1, 0, 1, 0, 0, 0, 0, 0, 1, 0,
+                                       255, 255, 255, 255, 255, 255, 255, 255};
+    size_t most = 0;
+    const char *name = "";
+    memset(flash, 0xFF, sizeof flash);
+    memcpy(flash, header, sizeof header);
+    for (int full = 0; full < 2; full++) {
+        for (size_t i = 0; i < sizeof calls / sizeof calls[0]; i++) {
+            size_t used = used_by(calls[i].call);
+            if (used > most) {
+                most = used;
+                name = calls[i].name;
+            }
+            for (int k = 0; full && calls[i].call == insert && k < 64; k++)
+                insert();
+        }
+    }
+    if (answer != FEQYONDIL_OK || feqyondil_state_number(state, FEQYONDIL_STATE_ACTIVE) != 1 || most > MOST) {
+        fprintf(stderr, "stack: WRONG: feqyondil_%s takes %zu bytes, number %u\n", name, most, (unsigned)answer);
+        return 1;
+    }
+    printf("stack: at most %zu bytes, by feqyondil_%s\n", most, name);
+    return 0;
+}

@@ -1,0 +1,48 @@
+//! Feqyondil: a proved flash store of v3 banks, without std and without an allocator.
+//!
+//! [`Store`] opens an image of the flash, looks values up, edits them, and says what a commit asks
+//! of the flash; the caller erases and writes. Every buffer is the caller's: [`PART_SIZE`] bytes of
+//! work area for each bank, [`BANK_SIZE`] bytes of output for a commit. [`lent`] has the same calls
+//! on any bytes, with numbers, as C has them. Calls on different buffers may run at once.
+//!
+//! It links libfeqyondil.a, for x86-64, from the folder that the environment variable FEQYONDIL_LIB
+//! names, else from dist/ of the repository, where `make lib` puts it.
+//!
+//! docs/USING.md goes from a blank board to a running store; docs/SPEC.md has the format and what
+//! each call promises. What is here is named as in include/feqyondil.h.
+
+#![no_std]
+#![warn(missing_docs)]
+
+#[cfg(test)]
+extern crate std;
+
+mod checksum;
+mod commit;
+#[cfg(test)]
+mod header;
+pub mod lent;
+mod partition;
+mod refusal;
+pub mod state;
+mod store;
+
+pub use checksum::{crc32, Tables};
+pub use commit::{Commit, NotCommitted};
+pub use partition::{partition_parse, partition_serialize, Partition, Slot};
+pub use refusal::Refusal;
+pub use state::{Entry, Kind};
+pub use store::{Store, VarType};
+
+/// Raised with each change of a prototype or of the state's layout: docs/CHANGES.md.
+pub const VERSION: u32 = 1;
+/// Bytes of one bank of an image.
+pub const BANK_SIZE: usize = 65_536;
+/// Most banks of an image.
+pub const BANKS_MAX: usize = 16;
+/// Bytes of work area for each bank.
+pub const PART_SIZE: usize = 131_072;
+/// Bytes of the state.
+pub const STATE_SIZE: usize = 204;
+/// Entries of the checksum's tables, of four bytes each.
+pub const CRC32_TABLE_ENTRIES: usize = 4096;

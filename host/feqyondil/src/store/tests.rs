@@ -1,0 +1,140 @@
+//! A store on lent buffers, from its opening to its refusals.
+
+use std::vec;
+use std::vec::Vec;
+
+use super::VarType::{Common, System};
+use super::*;
+use crate::{Kind, BANKS_MAX, BANK_SIZE, PART_SIZE};
+
+/// A bank of 0xFF but for a header of size 65,536 and generation 1.
+fn image() -> Vec<u8> {
+    let mut image = vec![0xFF; BANK_SIZE];
+    image[..16].copy_from_slice(b"3VVN\0\0\x01\0\x01\0\0\0\0\0\x01\0");
+    image
+}
+
+/// A work area for this many banks.
+fn work(banks: usize) -> Vec<u8> {
+    vec![0; banks * PART_SIZE]
+}
+
+#[test]
+fn a_value_comes_back_until_it_is_removed() {
+    let mut work = work(1);
+    let mut store = Store::open(&image(), &mut work).unwrap();
+    assert_eq!(store.get(b"rate", System), Ok(None));
+    store.insert(b"rate", b"123456789", System).unwrap();
+    assert_eq!(store.get(b"rate", System), Ok(Some(&b"123456789"[..])));
+    assert_eq!(store.find(b"rate", System), Ok(Some(65..74)));
+    assert_eq!(store.get(b"rate", Common), Ok(None));
+    store.insert(b"rate", b"", System).unwrap();
+    assert_eq!(store.get(b"rate", System), Ok(Some(&b""[..])));
+    store.remove(b"rate", System).unwrap();
+    assert_eq!(store.get(b"rate", System), Ok(None));
+}
+
+#[test]
+fn a_value_is_copied_as_far_as_there_is_room() {
+    let mut work = work(1);
+    let mut store = Store::open(&image(), &mut work).unwrap();
+    store.insert(b"rate", b"12345", Common).unwrap();
+    let mut out = *b"-------";
+    assert_eq!(store.value(b"rate", Common, &mut out[..3]), 5);
+    assert_eq!(&out, b"123----");
+    assert_eq!(store.value(b"rate", Common, &mut out), 5);
+    assert_eq!(&out, b"12345--");
+    assert_eq!(store.value(b"rate", System, &mut out), 0);
+}
+
+#[test]
+fn a_commit_is_written_and_reopened() {
+    let mut flash = [image(), vec![0xFF; BANK_SIZE]].concat();
+    flash[8] = 2; // the generation
+    let (mut first, mut second) = (work(2), work(2));
+    let mut output = vec![7; 2 * BANK_SIZE];
+    let mut store = Store::open(&flash, &mut first).unwrap();
+    store.insert(b"rate", b"123456789", System).unwrap();
+    let done = store.commit(&mut output).unwrap();
+    assert_eq!((done.erase, done.offset), (None, 0));
+    assert_eq!(done.bytes.len(), BANK_SIZE);
+    flash[..BANK_SIZE].copy_from_slice(done.bytes);
+    assert_eq!(output[BANK_SIZE..], [7; BANK_SIZE]);
+    let whole = store.whole_image(&mut output).unwrap();
+    assert_eq!(whole, &flash[..BANK_SIZE]);
+    let again = Store::open(&flash, &mut second).unwrap();
+    assert_eq!(again.get(b"rate", System), Ok(Some(&b"123456789"[..])));
+    assert_eq!((again.state(), again.work()), (store.state(), store.work()));
+}
+
+#[test]
+fn a_move_asks_for_the_erase_of_the_next_bank() {
+    let (mut work, mut output) = (work(2), vec![0; 2 * BANK_SIZE]);
+    let flash = [image(), vec![0; BANK_SIZE]].concat();
+    let mut store = Store::open(&flash, &mut work).unwrap();
+    let value = vec![7; BANK_SIZE - 24 - 37];
+    store.insert(b"", &value, Common).unwrap();
+    assert_eq!(store.commit(&mut output).unwrap().erase, None);
+    store.insert(b"", b"", Common).unwrap();
+    let moved = store.commit(&mut output).unwrap();
+    assert_eq!((moved.erase, moved.offset), (Some(BANK_SIZE), BANK_SIZE));
+    assert_eq!(moved.bytes[8], 2);
+    store.insert(b"k", &value, Common).unwrap();
+    let over = NotCommitted::Moved { erase: Some(0) };
+    assert_eq!(store.commit(&mut output), Err(over));
+    assert_eq!(store.tally(), 2);
+    assert_eq!(store.whole_image(&mut output), Err(Refusal::BankOver));
+}
+
+#[test]
+fn the_state_is_told() {
+    let mut work = work(3);
+    let flash = [vec![0xFF; BANK_SIZE], image(), vec![0; BANK_SIZE]].concat();
+    let mut store = Store::open(&flash, &mut work).unwrap();
+    store.insert(b"rate", b"123456789", System).unwrap();
+    assert_eq!((store.banks(), store.active(), store.tally()), (3, 1, 0));
+    let told = [
+        (Kind::Empty, 0, 0),
+        (Kind::Valid, 24 + 37 + 4 + 9, BANK_SIZE),
+        (Kind::Invalid, 0, 0),
+    ];
+    for (i, (kind, total, usable)) in told.into_iter().enumerate() {
+        let entry = Entry {
+            kind,
+            total,
+            usable,
+        };
+        assert_eq!(store.bank(i), Some(entry));
+    }
+    assert_eq!((store.bank(3), store.bank(BANKS_MAX)), (None, None));
+}
+
+#[test]
+fn refusals_are_told() {
+    let mut lent = work(16);
+    let mut refused = |image: &[u8], len| Store::open(image, &mut lent[..len]).err();
+    assert_eq!(refused(&image()[1..], 0), Some(Refusal::ImageShort));
+    let long = vec![0xFF; (BANKS_MAX + 1) * BANK_SIZE];
+    assert_eq!(refused(&long, 0), Some(Refusal::ImageLong));
+    assert_eq!(refused(&image(), 131_071), Some(Refusal::WorkShort));
+    assert_eq!(refused(&long[1..], 16 * PART_SIZE), Some(Refusal::NoValid));
+    let mut old = image();
+    old[8] = 0; // the generation
+    let invalid_first = [vec![0; BANK_SIZE], old].concat();
+    let mut output = vec![0; BANK_SIZE];
+    let mut store = Store::open(&invalid_first, &mut lent).unwrap();
+    assert_eq!(store.remove(b"", Common), Err(Refusal::NotValid));
+    let refused = |refusal| Err(NotCommitted::Refused(refusal));
+    assert_eq!(store.commit(&mut output), refused(Refusal::NotValid));
+    let short = store.commit(&mut output[1..]);
+    assert_eq!(short, refused(Refusal::OutputShort));
+    let whole = store.whole_image(&mut output);
+    assert_eq!(whole, Err(Refusal::OutputShort));
+    output.resize(2 * BANK_SIZE, 0);
+    let whole = store.whole_image(&mut output);
+    assert_eq!(whole, Ok(&invalid_first[BANK_SIZE..]));
+    let mut store = Store::open(&image(), &mut lent).unwrap();
+    let most = vec![7; PART_SIZE - 24 - 37];
+    assert_eq!(store.insert(b"a", &most, Common), Err(Refusal::Full));
+    assert_eq!(store.insert(b"", &most, Common), Ok(()));
+}
