@@ -1,9 +1,11 @@
 //! The store: openings and lists of calls on the Rust, on the port and by the words of the
-//! scope paper (01); then the port alone, on states and work areas that nobody made.
+//! scope paper (01); then the port alone, in power cuts, and on states and work areas that nobody
+//! made.
 
 mod book;
 mod call;
 mod commit;
+mod cuts;
 mod demand;
 mod edges;
 mod fixed;
@@ -39,7 +41,7 @@ pub use replay::text as replay_text;
 
 type Outcome = Result<(), String>;
 
-/// Runs every part and answers how many runs and fuzzed calls there were.
+/// Runs every part and answers how many runs, cut points and fuzzed calls there were.
 pub fn run(mode: Mode, rng: &mut Rng) -> Result<u64, String> {
     let mut judge = Judge::new(&Port);
     judge.part("at the lengths' edges", |j| j.edges())?;
@@ -48,8 +50,9 @@ pub fn run(mode: Mode, rng: &mut Rng) -> Result<u64, String> {
     judge.part("random", |j| j.random(count, make::run, rng))?;
     let count = mode.pick(120, 26_000);
     judge.part("banks that move", |j| j.random(count, moving::run, rng))?;
+    let cuts = cuts::run(&Port, mode, rng)?;
     let fuzzed = fuzz::run(&Port, mode.pick(4_000, 200_000), Standing::Guarded(3), rng)?;
-    Ok(judge.tally.all_runs() + fuzzed)
+    Ok(judge.tally.all_runs() + cuts + fuzzed)
 }
 
 /// A few runs and fuzzed calls on buffers that stand alone, for a memory checker.

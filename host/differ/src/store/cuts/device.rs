@@ -1,0 +1,191 @@
+//! A store and its flash: edits, commits, and power that goes.
+
+use std::mem;
+
+use image::{number, BANK, RECORD};
+
+use super::super::book::PART;
+use super::super::call::{Answer, Call, What};
+use super::super::flash::Flash;
+use super::super::lent::{Calls, Lent};
+use super::super::sound;
+use super::super::state::{Entry, State};
+use super::plan::{Action, Plan, SPARE};
+use super::reader::{judge, Answers, Reader, Verdict};
+use super::steps::{steps, Order, Step};
+
+pub struct Device<'a> {
+    pub flash: Flash,
+    store: Lent<'a>,
+    reader: Reader<'a>,
+    /// What the flash answers.
+    answers: Answers,
+    /// What was done, in words.
+    log: Vec<String>,
+}
+
+/// An accepted commit that is still to be carried out.
+pub struct Commit {
+    answer: Answer,
+    /// What the flash answers before it, and the store after it.
+    was: Answers,
+    is: Answers,
+    pub moved: bool,
+}
+
+impl<'a> Device<'a> {
+    pub fn open(calls: &'a dyn Calls, plan: &Plan) -> Result<Self, String> {
+        let mut reader = Reader::new(calls, &plan.keys, &plan.image);
+        let answers = reader.flash(&plan.image, &[])?;
+        let next = Reader::new(calls, &plan.keys, &plan.image);
+        Ok(Device {
+            flash: Flash::new(&plan.image),
+            store: reader.store,
+            reader: next,
+            answers: answers.ok_or("the flash does not open")?,
+            log: Vec::new(),
+        })
+    }
+
+    /// Opens the store from the flash; what was not committed is gone.
+    pub fn reopen(&mut self) -> Result<(), String> {
+        self.log.push("opened anew".to_string());
+        let now = self.reader.flash(&self.flash.bytes, &[&self.answers])?;
+        now.ok_or("the flash does not open again")?;
+        mem::swap(&mut self.store, &mut self.reader.store);
+        Ok(())
+    }
+
+    /// An edit, unless the live records would be over the bank's size after it.
+    pub fn edit(&mut self, action: &Action) -> Result<(), String> {
+        let call = match action {
+            Action::Edit(call) => Some(call.clone()),
+            Action::Fill {
+                key,
+                typ,
+                byte,
+                free,
+            } => {
+                let room = self.room().and_then(|room| room.checked_sub(*free));
+                let len = room.and_then(|room| room.checked_sub(RECORD + key.len() + 1));
+                len.map(|len| Call::new(What::Insert(vec![*byte; len]), key, *typ))
+            }
+            _ => None,
+        };
+        if let Some(call) = call.filter(|call| self.fits(call)) {
+            self.log.push(call.to_string());
+            self.store.ask(&call)?;
+        }
+        Ok(())
+    }
+
+    fn fits(&self, call: &Call) -> bool {
+        let What::Insert(value) = &call.what else {
+            return true;
+        };
+        let (entry, size) = self.active();
+        let record = RECORD + call.key.len() + 1 + value.len();
+        if entry.total as usize + record <= size as usize {
+            return true;
+        }
+        let book = sound::book(self.store.state.bytes(), self.store.work.bytes());
+        book.is_some_and(|mut book| {
+            book.answer(call);
+            let bank = book.active_bank();
+            bank.is_some_and(|b| b.live() <= b.header.size as usize)
+        })
+    }
+
+    /// The active bank's entry, and the size in its header.
+    fn active(&self) -> (Entry, u32) {
+        let state = State::read(self.store.state.bytes()).expect("a state's bytes");
+        let active = state.active as usize;
+        let size = number(self.store.work.bytes(), active * PART + 4);
+        (state.entries[active], size)
+    }
+
+    /// Usable bytes behind the records, where the usable ones end before the bank's size: something
+    /// is written behind the records there.
+    fn room(&self) -> Option<usize> {
+        let (entry, size) = self.active();
+        let room = entry.usable.checked_sub(entry.total);
+        room.filter(|_| entry.usable < size).map(|n| n as usize)
+    }
+
+    /// Has the next commit move, where something is written behind the records: an insert brings the
+    /// total over the usable bytes, and a remove takes the value out again.
+    pub fn move_first(&mut self) -> Result<(), String> {
+        let Some(room) = self.room() else {
+            return Ok(());
+        };
+        for what in [What::Insert(vec![0; room]), What::Remove] {
+            let call = Call::new(what, SPARE, 1);
+            self.log.push(call.to_string());
+            self.store.ask(&call)?;
+        }
+        Ok(())
+    }
+
+    /// A commit; `None` where it is refused, and then the store is opened anew.
+    pub fn commit(&mut self) -> Result<Option<Commit>, String> {
+        let active = |device: &Self| number(device.store.state.bytes(), 4);
+        let before = active(self);
+        let answer = self.store.ask(&Call::commit(BANK))?;
+        if answer.written().is_none() {
+            self.log.push("commit, refused".to_string());
+            return self.reopen().map(|()| None);
+        }
+        let is = self.reader.answers(&mut self.store)?;
+        let moved = active(self) != before;
+        let place = if moved { "moves" } else { "in place" };
+        self.log.push(format!("commit, {place}"));
+        Ok(Some(Commit {
+            answer,
+            was: self.answers.clone(),
+            is: is.ok_or("lookups are refused after a commit")?,
+            moved,
+        }))
+    }
+
+    pub fn steps(&self, commit: &Commit, order: &Order) -> Result<Vec<Step>, String> {
+        steps(&self.flash.bytes, &commit.answer, order)
+    }
+
+    /// Judges the flash as a cut would leave it.
+    pub fn judge(&mut self, cut: &[u8], commit: &Commit) -> Result<Verdict, String> {
+        let known = [&commit.was, &commit.is];
+        let now = self.reader.flash(cut, &known)?;
+        Ok(judge(now.as_ref(), known))
+    }
+
+    /// Carries a commit out; the flash is to answer as the store does.
+    pub fn finish(&mut self, commit: &Commit) -> Result<Verdict, String> {
+        self.flash.carry_out(&commit.answer)?;
+        let now = self.reader.flash(&self.flash.bytes, &[&commit.is])?;
+        let verdict = judge(now.as_ref(), [&commit.is; 2]);
+        self.answers = commit.is.clone();
+        Ok(verdict)
+    }
+
+    /// Carries out the first of a commit's steps, and opens the store from what the flash is then.
+    pub fn cut(&mut self, commit: &Commit, steps: &[Step], j: usize) -> Result<Verdict, String> {
+        let k = steps.len();
+        self.log.push(format!("  cut after {j} of {k} steps"));
+        let flash = &mut self.flash.bytes;
+        steps[..j].iter().for_each(|step| step.apply(flash));
+        let known = [&commit.was, &commit.is];
+        let now = self.reader.flash(flash, &known)?;
+        let verdict = judge(now.as_ref(), known);
+        if let Some(now) = now {
+            self.answers = now;
+            mem::swap(&mut self.store, &mut self.reader.store);
+        }
+        Ok(verdict)
+    }
+
+    /// What was done, and what came of it.
+    pub fn told(&self, what: &str, verdict: Verdict) -> String {
+        let told = self.reader.told(verdict);
+        format!("  {}\n  {what}: {told}", self.log.join("\n  "))
+    }
+}
