@@ -52,14 +52,36 @@ fenced() {
     awk -v mark="\`\`\`$1" -v nth="${2:-1}" '/^```/ { on = 0; if ($0 == mark) on = ++seen == nth; next } on' docs/USING.md
 }
 
-# proving CRATES EDITS COMMAND..: runs rt with a line for each of so many crates and edits; with V=1 shows all that it prints.
+# progress CRATES EDITS: of what rt prints, a line for each of so many crates and edits. What the prover says of a crate is shown only where
+# the crate is not proved; target/log has all of it.
+progress() {
+    local crates=$1 edits=$2 proved=0 refused=0 said='' line
+    while IFS= read -r line; do
+        if [[ $line =~ ^rt:\ ([a-z0-9_]+\ proved\ \(.*) ]]; then
+            printf '%d of %d: %s\n' $((++proved)) "$crates" "${BASH_REMATCH[1]}"
+        elif [[ $line =~ ^rt:\ .*\ has\ the\ functions\ of\ ([a-z0-9_]+)\  ]]; then
+            printf '%d of %d: %s proved, and a library of it made\n' $((++proved)) "$crates" "${BASH_REMATCH[1]}"
+        elif [[ $line =~ ^rt:\ (must-fail\ .*:\ refused,\ .*) ]]; then
+            printf '%d of %d: %s\n' $((++refused)) "$edits" "${BASH_REMATCH[1]}"
+        elif [[ $line =~ ^rt:\  || $line =~ ^[0-9]+\ passed,\  ]]; then
+            printf '%s%s\n' "$said" "$line"
+        else
+            said+=$line$'\n'
+            continue
+        fi
+        said=
+    done
+    printf '%s' "$said"
+}
+
+# proving CRATES EDITS COMMAND..: runs rt so; with V=1 shows all that it prints.
 proving() {
     local crates=$1 edits=$2
     shift 2
     if [ "${V:-}" = 1 ]; then
         "$@" 2>&1
     else
-        "$@" 2>&1 | awk -v crates="$crates" -v edits="$edits" -f scripts/progress.awk
+        "$@" 2>&1 | progress "$crates" "$edits"
     fi
 }
 
