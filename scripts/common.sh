@@ -3,16 +3,8 @@
 set -euo pipefail
 cd "$(dirname "${BASH_SOURCE[0]}")/.."
 
-# The Rust's sources, never a part of this repository.
-NVRAM_RUST=$(realpath -m "${NVRAM_RUST:-../shared}")
-# The Rust's crates, as Debian's packages lay them out.
-DEBIAN_CRATES=${DEBIAN_CRATES:-/usr/share/cargo/registry}
 # The folder of libfeqyondil.a, for the C programs and the Rust side to link.
-FEQYONDIL_LIB=$PWD/target/staticlib
-export NVRAM_RUST FEQYONDIL_LIB
-
-# As host/Cargo.toml says.
-OLDEST_RUST=1.70
+export FEQYONDIL_LIB=$PWD/target/staticlib
 
 say() { printf '== %s\n' "$*"; }
 warn() { printf '\n!! %s\n\n' "$*"; }
@@ -98,8 +90,8 @@ crates_of() {
 
 # libfeqyondil.a out of the proved exports.
 make_library() {
-    proving "$(crates_of exports)" 0 rt staticlib exports
-    cp target/staticlib/libexports.a "$FEQYONDIL_LIB/libfeqyondil.a"
+    proving "$(crates_of exports)" 0 rt staticlib exports &&
+        cp target/staticlib/libexports.a "$FEQYONDIL_LIB/libfeqyondil.a"
 }
 
 build_library() { step "proving the exports and making their static library" make_library; }

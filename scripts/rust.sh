@@ -1,5 +1,13 @@
 # shellcheck shell=bash
-# Sourced by the scripts that compare with the Rust: what that needs, and how host/ is built.
+# Sourced after common.sh by the scripts that compare with the Rust: what that needs, and how host/ is built.
+
+# The Rust's sources, never a part of this repository.
+NVRAM_RUST=$(realpath -m "${NVRAM_RUST:-../shared}")
+export NVRAM_RUST
+# The Rust's crates, as Debian's packages lay them out.
+DEBIAN_CRATES=${DEBIAN_CRATES:-/usr/share/cargo/registry}
+# As host/Cargo.toml says.
+OLDEST_RUST=1.70
 
 has_papers() {
     local name

@@ -2,32 +2,13 @@
  * A store that goes on after a power cut, as docs/USING.md says and as it warns of: a commit of two
  * new values is cut off when the second one's record is whole, and another value is committed then.
  */
-#include "feqyondil.h"
+#include "board.h"
 
-#include <stdio.h>
-#include <stdlib.h>
-#include <string.h>
-
-static uint8_t flash[2 * FEQYONDIL_BANK_SIZE];
-static uint8_t work[2 * FEQYONDIL_PART_SIZE];
-static uint8_t state[FEQYONDIL_STATE_SIZE];
-static uint8_t output[FEQYONDIL_BANK_SIZE];
-
-#define STORE state, sizeof state, work, sizeof work
 #define ALL sizeof output
 #define RECORD 39u /* of a key and a value of one byte each */
 
 /* The function of docs/USING.md, 'Power cuts'. */
 #include "move_after_cut.h"
-
-static void check(int right, const char *what) {
-    if (!right) {
-        fprintf(stderr, "cut: WRONG: %s\n", what);
-        exit(1);
-    }
-}
-
-static void reopen(void) { check(feqyondil_open(flash, sizeof flash, STORE) == FEQYONDIL_OK, "opening"); }
 
 static void insert(const char *key) {
     const uint8_t *byte = (const uint8_t *)key;
@@ -59,10 +40,7 @@ static uint64_t commit(size_t power) {
 
 /* Whether the second value, which was cut off, is back after the third one's commit. */
 static int comes_back(int moves) {
-    static const uint8_t header[24] = {'3', 'V', 'V', 'N', 0, 0, 1, 0, 1, 0, 0, 0, 0, 0, 1, 0,
-                                       255, 255, 255, 255, 255, 255, 255, 255};
-    memset(flash, 0xFF, sizeof flash);
-    memcpy(flash, header, sizeof header);
+    format(FEQYONDIL_BANK_SIZE);
     reopen();
     insert("a");
     insert("b");

@@ -3,50 +3,23 @@
  * the flash is written as the commits ask, and what is opened again has the values. What the header
  * says of null pointers, of the state's numbers, and of a store after a move and after 12 is tried too.
  */
-#include "feqyondil.h"
+#include "board.h"
 
-#include <stdio.h>
-#include <stdlib.h>
-#include <string.h>
-
-#define BANKS 2u
-#define FLASH (BANKS * FEQYONDIL_BANK_SIZE)
+#define FLASH (sizeof flash)
 #define SIZE 200u
 #define TURNS 9u
 
-static uint8_t flash[FLASH];
-static uint8_t work[BANKS * FEQYONDIL_PART_SIZE];
-static uint8_t state[FEQYONDIL_STATE_SIZE];
-static uint8_t output[FLASH];
 static uint64_t requests[4], found[3], length[1], fields[8];
 
 static const uint8_t key[] = {'r', 'a', 't', 'e'};
 
-#define STORE state, sizeof state, work, sizeof work
 #define KEY key, sizeof key
-
-static void check(int right, const char *what) {
-    if (!right) {
-        fprintf(stderr, "roundtrip: WRONG: %s\n", what);
-        exit(1);
-    }
-}
 
 static uint32_t number_at(size_t offset) { return feqyondil_state_number(state, offset); }
 
 static uint32_t entry(uint32_t bank, size_t place) {
     return number_at(FEQYONDIL_STATE_ENTRIES + FEQYONDIL_ENTRY_SIZE * bank + place);
 }
-
-/* Two banks: a header of this size without limits and no record, then an Empty one. */
-static void format(void) {
-    static const uint8_t header[24] = {'3', 'V', 'V', 'N', SIZE, 0, 0, 0, 1, 0, 0, 0, 0, 0, 1, 0,
-                                       255, 255, 255, 255, 255, 255, 255, 255};
-    memset(flash, 0xFF, sizeof flash);
-    memcpy(flash, header, sizeof header);
-}
-
-static void reopen(void) { check(feqyondil_open(flash, sizeof flash, STORE) == FEQYONDIL_OK, "opening"); }
 
 static void insert(uint8_t value) {
     check(feqyondil_insert(STORE, KEY, &value, 1, FEQYONDIL_SYSTEM) == FEQYONDIL_OK, "insert");
@@ -148,7 +121,7 @@ static void nulls(void) {
 
 int main(void) {
     unsigned erases;
-    format();
+    format(SIZE);
     erases = turns();
     check(erases == 1, "erases");
     over();

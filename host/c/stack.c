@@ -5,29 +5,21 @@
  */
 #define _XOPEN_SOURCE 700
 
-#include "feqyondil.h"
+#include "board.h"
 
-#include <stdio.h>
-#include <string.h>
 #include <ucontext.h>
 
 #define MOST 19456u /* docs/USING.md, 'Memory' */
 #define STACK 262144u
 #define FILLED 0xA5
-#define BANKS 2u
 
 static uint8_t stack[STACK];
-static uint8_t flash[BANKS * FEQYONDIL_BANK_SIZE];
-static uint8_t work[BANKS * FEQYONDIL_PART_SIZE];
-static uint8_t state[FEQYONDIL_STATE_SIZE];
-static uint8_t output[sizeof flash];
 static uint8_t value[1024];
 static uint32_t tables[FEQYONDIL_CRC32_TABLE_ENTRIES];
 static uint64_t numbers[8];
 static uint32_t answer;
 static ucontext_t caller, called;
 
-#define STORE state, sizeof state, work, sizeof work
 #define KEY value, 4
 
 static void crc32(void) { answer = feqyondil_crc32(flash, sizeof flash); }
@@ -79,12 +71,9 @@ static size_t used_by(void (*call)(void)) {
 }
 
 int main(void) {
-    static const uint8_t header[24] = {'3', 'V', 'V', 'N', 0, 0, 1, 0, 1, 0, 0, 0, 0, 0, 1, 0,
-                                       255, 255, 255, 255, 255, 255, 255, 255};
     size_t most = 0;
     const char *name = "";
-    memset(flash, 0xFF, sizeof flash);
-    memcpy(flash, header, sizeof header);
+    format(FEQYONDIL_BANK_SIZE);
     for (int full = 0; full < 2; full++) {
         for (size_t i = 0; i < sizeof calls / sizeof calls[0]; i++) {
             size_t used = used_by(calls[i].call);
@@ -96,10 +85,8 @@ int main(void) {
                 insert();
         }
     }
-    if (answer != FEQYONDIL_OK || feqyondil_state_number(state, FEQYONDIL_STATE_ACTIVE) != 1 || most > MOST) {
-        fprintf(stderr, "stack: WRONG: feqyondil_%s takes %zu bytes, number %u\n", name, most, (unsigned)answer);
-        return 1;
-    }
+    check(answer == FEQYONDIL_OK && feqyondil_state_number(state, FEQYONDIL_STATE_ACTIVE) == 1, "the full bank has moved");
     printf("stack: at most %zu bytes, by feqyondil_%s\n", most, name);
+    check(most <= MOST, "more than docs/USING.md says");
     return 0;
 }
