@@ -3,7 +3,8 @@
  * store; docs/SPEC.md has the format and what each call promises.
  *
  * Where it runs: on x86-64. There is no library for a microcontroller yet. It calls memcpy and
- * memset and nothing else.
+ * memset and nothing else; a call takes 19 KiB of stack at most, as measured. The flash needs erase
+ * blocks of 65,536 bytes at the banks, and bytes that can be programmed again to clear further bits.
  *
  * Buffers. No function keeps a pointer, allocates, or reads or writes outside the buffers that it
  * is lent. A byte buffer is a pointer and a length; with length 0 the pointer is never followed and
@@ -120,9 +121,11 @@ uint32_t feqyondil_partition_serialize(const uint8_t *nvr, size_t nvr_len, uint8
 #define FEQYONDIL_STATE_TALLY 8u    /* erase requests since the opening, up to 4,294,967,295 */
 #define FEQYONDIL_STATE_ENTRIES 12u /* bank i's is FEQYONDIL_ENTRY_SIZE * i bytes behind */
 #define FEQYONDIL_ENTRY_SIZE 12u
-#define FEQYONDIL_ENTRY_KIND 0u     /* places in an entry */
-#define FEQYONDIL_ENTRY_TOTAL 4u
-#define FEQYONDIL_ENTRY_USABLE 8u
+
+/* Places in an entry; total and usable are 0 unless the bank is Valid. */
+#define FEQYONDIL_ENTRY_KIND 0u
+#define FEQYONDIL_ENTRY_TOTAL 4u    /* bytes of the header and of all records, dead ones too */
+#define FEQYONDIL_ENTRY_USABLE 8u   /* a commit moves the bank where its total is over this */
 
 /* Kinds of a bank in a state's entry; feqyondil_partition_parse counts them otherwise. */
 #define FEQYONDIL_KIND_EMPTY 0u
