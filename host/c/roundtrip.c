@@ -94,29 +94,52 @@ static void over(void) {
     find(TURNS);
 }
 
-/* Of every call, each buffer with length 0 and a null pointer. */
-static void nulls(void) {
-    check(feqyondil_crc32(NULL, 0) == 0, "null: checksum");
-    check(feqyondil_partition_parse(NULL, 0, fields) == FEQYONDIL_SLOT_SHORT, "null: parse");
-    check(feqyondil_partition_serialize(NULL, 0, NULL, 0, fields) == FEQYONDIL_SLOT_SHORT, "null: serialize");
-    check(feqyondil_partition_serialize(flash, FLASH, NULL, 0, fields) == FEQYONDIL_SLOT_SHORT, "null: part");
-    check(feqyondil_open(flash, FLASH, NULL, 0, NULL, 0) == FEQYONDIL_NOT_SOUND, "null: state");
-    check(feqyondil_insert(NULL, 0, NULL, 0, NULL, 0, NULL, 0, 0) == FEQYONDIL_NOT_SOUND, "null: insert");
-    check(feqyondil_remove(NULL, 0, NULL, 0, NULL, 0, 0) == FEQYONDIL_NOT_SOUND, "null: remove");
-    check(feqyondil_lookup(NULL, 0, NULL, 0, NULL, 0, 0, found) == FEQYONDIL_NOT_SOUND, "null: lookup");
-    check(feqyondil_value(NULL, 0, NULL, 0, NULL, 0, 0, NULL, 0) == 0, "null: value");
-    check(feqyondil_commit(NULL, 0, NULL, 0, NULL, 0, requests) == FEQYONDIL_NOT_SOUND, "null: commit");
-    check(feqyondil_whole_image(NULL, 0, NULL, 0, NULL, 0, length) == FEQYONDIL_NOT_SOUND, "null: whole image");
-    check(feqyondil_insert(STORE, NULL, 0, NULL, 0, FEQYONDIL_COMMON) == FEQYONDIL_OK, "null: key and value");
-    check(feqyondil_lookup(STORE, NULL, 0, FEQYONDIL_COMMON, found) == FEQYONDIL_OK, "null: key");
+#define NONE NULL, 0
+#define STATE state, sizeof state
+#define WORK work, sizeof work
+#define COMMON FEQYONDIL_COMMON
+
+/* Of the calls on banks, each buffer in turn with a null pointer and length 0. */
+static void nulls_of_banks(void) {
+    static uint32_t tables[FEQYONDIL_CRC32_TABLE_ENTRIES];
+    feqyondil_crc32_tables(tables);
+    check(feqyondil_crc32(NONE) == 0, "null: checksum");
+    check(feqyondil_crc32_with(tables, NONE) == 0, "null: checksum with tables");
+    check(feqyondil_partition_parse(NONE, fields) == FEQYONDIL_SLOT_SHORT, "null: parse");
+    check(feqyondil_partition_serialize(NONE, output, FLASH, fields) == FEQYONDIL_SLOT_SHORT, "null: serialize");
+    check(feqyondil_partition_serialize(flash, FLASH, NONE, fields) == FEQYONDIL_SLOT_SHORT, "null: part");
+}
+
+/* Of the edits and lookups; an empty key and an empty value are as good as others. */
+static void nulls_of_edits(void) {
+    check(feqyondil_insert(NONE, WORK, KEY, KEY, COMMON) == FEQYONDIL_NOT_SOUND, "null: insert, state");
+    check(feqyondil_insert(STATE, NONE, KEY, KEY, COMMON) == FEQYONDIL_NOT_SOUND, "null: insert, work");
+    check(feqyondil_insert(STORE, NONE, KEY, COMMON) == FEQYONDIL_OK, "null: insert, key");
+    check(feqyondil_value(STORE, NONE, COMMON, output, FLASH) == sizeof key, "null: value, key");
+    check(feqyondil_insert(STORE, NONE, NONE, COMMON) == FEQYONDIL_OK, "null: insert, key and value");
+    check(feqyondil_lookup(NONE, WORK, KEY, COMMON, found) == FEQYONDIL_NOT_SOUND, "null: lookup, state");
+    check(feqyondil_lookup(STATE, NONE, KEY, COMMON, found) == FEQYONDIL_NOT_SOUND, "null: lookup, work");
+    check(feqyondil_lookup(STORE, NONE, COMMON, found) == FEQYONDIL_OK, "null: lookup, key");
     check(found[FEQYONDIL_FOUND] == 1 && found[FEQYONDIL_FOUND_LENGTH] == 0, "the empty value");
-    check(feqyondil_value(STORE, KEY, FEQYONDIL_SYSTEM, NULL, 0) == 1, "null: out");
-    check(feqyondil_commit(STORE, NULL, 0, requests) == FEQYONDIL_OUTPUT_SHORT, "null: output");
-    check(feqyondil_whole_image(STORE, NULL, 0, length) == FEQYONDIL_OUTPUT_SHORT, "null: image's output");
-    check(feqyondil_commit(state, sizeof state, NULL, 0, output, FLASH, requests) == FEQYONDIL_NOT_SOUND, "null: work");
-    check(feqyondil_remove(STORE, NULL, 0, FEQYONDIL_COMMON) == FEQYONDIL_OK, "null: removed key");
-    check(feqyondil_open(flash, FLASH, state, sizeof state, NULL, 0) == FEQYONDIL_WORK_SHORT, "null: opening's work");
-    check(feqyondil_open(NULL, 0, STORE) == FEQYONDIL_IMAGE_SHORT, "null: image");
+    check(feqyondil_value(NONE, WORK, KEY, FEQYONDIL_SYSTEM, output, FLASH) == 0, "null: value, state");
+    check(feqyondil_value(STATE, NONE, KEY, FEQYONDIL_SYSTEM, output, FLASH) == 0, "null: value, work");
+    check(feqyondil_value(STORE, KEY, FEQYONDIL_SYSTEM, NONE) == 1, "null: value, out");
+    check(feqyondil_remove(NONE, WORK, KEY, COMMON) == FEQYONDIL_NOT_SOUND, "null: remove, state");
+    check(feqyondil_remove(STATE, NONE, KEY, COMMON) == FEQYONDIL_NOT_SOUND, "null: remove, work");
+    check(feqyondil_remove(STORE, NONE, COMMON) == FEQYONDIL_OK, "null: remove, key");
+}
+
+/* Of what reads and writes flash. */
+static void nulls_of_flash(void) {
+    check(feqyondil_commit(NONE, WORK, output, FLASH, requests) == FEQYONDIL_NOT_SOUND, "null: commit, state");
+    check(feqyondil_commit(STATE, NONE, output, FLASH, requests) == FEQYONDIL_NOT_SOUND, "null: commit, work");
+    check(feqyondil_commit(STORE, NONE, requests) == FEQYONDIL_OUTPUT_SHORT, "null: commit, output");
+    check(feqyondil_whole_image(NONE, WORK, output, FLASH, length) == FEQYONDIL_NOT_SOUND, "null: image, state");
+    check(feqyondil_whole_image(STATE, NONE, output, FLASH, length) == FEQYONDIL_NOT_SOUND, "null: image, work");
+    check(feqyondil_whole_image(STORE, NONE, length) == FEQYONDIL_OUTPUT_SHORT, "null: image, output");
+    check(feqyondil_open(flash, FLASH, NONE, WORK) == FEQYONDIL_NOT_SOUND, "null: opening, state");
+    check(feqyondil_open(flash, FLASH, STATE, NONE) == FEQYONDIL_WORK_SHORT, "null: opening, work");
+    check(feqyondil_open(NONE, STORE) == FEQYONDIL_IMAGE_SHORT, "null: opening, image");
 }
 
 int main(void) {
@@ -125,7 +148,9 @@ int main(void) {
     erases = turns();
     check(erases == 1, "erases");
     over();
-    nulls();
+    nulls_of_banks();
+    nulls_of_edits();
+    nulls_of_flash();
     printf("roundtrip: %u commits, %u erased a bank, each reopened: right\n", TURNS, erases);
     return 0;
 }

@@ -19,6 +19,25 @@ pub fn shrink(input: Vec<u8>, fails: impl FnMut(&[u8]) -> bool) -> Vec<u8> {
     search.best
 }
 
+/// A list with fewer elements for which `fails` still holds: all are dropped, then from the last on
+/// pieces half as long, down to one.
+pub fn fewer<T: Clone>(mut list: Vec<T>, mut fails: impl FnMut(&[T]) -> bool) -> Vec<T> {
+    let mut piece = list.len();
+    while piece > 0 {
+        let mut from = list.len();
+        while from > 0 {
+            let to = from;
+            from = from.saturating_sub(piece);
+            let less = [&list[..from], &list[to..]].concat();
+            if fails(&less) {
+                list = less;
+            }
+        }
+        piece /= 2;
+    }
+    list
+}
+
 struct Search<F> {
     best: Vec<u8>,
     fails: F,
@@ -93,6 +112,14 @@ impl<F: FnMut(&[u8]) -> bool> Search<F> {
 #[cfg(test)]
 mod tests {
     use super::*;
+
+    #[test]
+    fn the_elements_that_matter_are_left() {
+        let list: Vec<u32> = (0..9).collect();
+        let fails = |list: &[u32]| list.contains(&2) && list.contains(&7);
+        assert_eq!(fewer(list.clone(), fails), [2, 7]);
+        assert_eq!(fewer(list, |_| true), []);
+    }
 
     #[test]
     fn finds_the_one_byte_that_matters() {

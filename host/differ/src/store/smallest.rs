@@ -10,6 +10,7 @@ use super::lent::Standing;
 use super::run::Run;
 use super::state::STATE;
 use crate::partition::smallest as banks;
+use crate::shrink::fewer;
 
 /// Changes tried for one run, so that a large one ends in seconds.
 const TRIES: usize = 3_000;
@@ -48,20 +49,11 @@ impl<F: Fn(&Run) -> bool> Search<F> {
         taken
     }
 
-    /// Drops all calls, then from the last on pieces of them down to one.
     fn fewer_calls(&mut self) -> bool {
-        let mut helped = false;
-        let mut piece = self.best.calls.len();
-        while piece > 0 {
-            let mut from = self.best.calls.len();
-            while from > 0 {
-                let to = from;
-                from = from.saturating_sub(piece);
-                helped |= self.keep(|run| drop(run.calls.drain(from..to)));
-            }
-            piece /= 2;
-        }
-        helped
+        let calls = self.best.calls.clone();
+        let count = calls.len();
+        let left = fewer(calls, |less| self.keep(|run| run.calls = less.to_vec()));
+        left.len() < count
     }
 
     fn plain_lending(&mut self) -> bool {

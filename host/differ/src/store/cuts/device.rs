@@ -96,9 +96,13 @@ impl<'a> Device<'a> {
         })
     }
 
+    fn state(&self) -> State {
+        State::read(self.store.state.bytes()).expect("a state's bytes")
+    }
+
     /// The active bank's entry, and the size in its header.
     fn active(&self) -> (Entry, u32) {
-        let state = State::read(self.store.state.bytes()).expect("a state's bytes");
+        let state = self.state();
         let active = state.active as usize;
         let size = number(self.store.work.bytes(), active * PART + 4);
         (state.entries[active], size)
@@ -128,15 +132,14 @@ impl<'a> Device<'a> {
 
     /// A commit; `None` where it is refused, and then the store is opened anew.
     pub fn commit(&mut self) -> Result<Option<Commit>, String> {
-        let active = |device: &Self| number(device.store.state.bytes(), 4);
-        let before = active(self);
+        let before = self.state().active;
         let answer = self.store.ask(&Call::commit(BANK))?;
         if answer.written().is_none() {
             self.log.push("commit, refused".to_string());
             return self.reopen().map(|()| None);
         }
         let is = self.reader.answers(&mut self.store)?;
-        let moved = active(self) != before;
+        let moved = self.state().active != before;
         let place = if moved { "moves" } else { "in place" };
         self.log.push(format!("commit, {place}"));
         Ok(Some(Commit {

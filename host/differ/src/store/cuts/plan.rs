@@ -8,6 +8,7 @@ use super::super::book::Book;
 use super::super::call::Call;
 use super::super::run::Run;
 use super::super::smallest::shown;
+use crate::shrink::fewer;
 
 /// The key of the record that has a commit move; no other has it.
 pub const SPARE: &[u8] = b"spare";
@@ -42,20 +43,13 @@ pub enum Action {
 impl Plan {
     /// With fewer actions and banks, as long as it still fails.
     pub fn least(mut self, fails: impl Fn(&Plan) -> bool) -> Plan {
-        let mut piece = self.actions.len();
-        while piece > 0 {
-            let mut from = self.actions.len();
-            while from > 0 {
-                let to = from;
-                from = from.saturating_sub(piece);
-                let mut plan = self.clone();
-                plan.actions.drain(from..to);
-                if fails(&plan) {
-                    self = plan;
-                }
-            }
-            piece /= 2;
-        }
+        self.actions = fewer(self.actions.clone(), |actions| {
+            let actions = actions.to_vec();
+            fails(&Plan {
+                actions,
+                ..self.clone()
+            })
+        });
         for at in (0..self.image.len()).step_by(BANK) {
             let mut plan = self.clone();
             plan.image[at..at + BANK].fill(0xFF);

@@ -1,10 +1,11 @@
 //! The numbers that the header tells, and planted faults that are found.
 
-use image::{number, put_number, Record, BANK};
+use image::{number, Record, BANK};
 
 use super::super::book::PART;
 use super::super::call::{Call, What};
 use super::super::lent::Port;
+use super::super::state::{State, VALID};
 use super::plan::Action;
 use super::single::Count;
 use super::steps::{Order, DOWNWARD, UPWARD};
@@ -97,12 +98,14 @@ struct AllUsable;
 impl Calls for AllUsable {
     fn open(&self, image: &[u8], state: &mut [u8], work: &mut [u8]) -> u32 {
         let answer = feqyondil::lent::open(image, state, work);
-        for i in 0..number(state, 0) as usize {
+        let mut told = State::read(state).unwrap();
+        for (i, entry) in told.entries[..told.n as usize].iter_mut().enumerate() {
             let size = number(work, i * PART + 4);
-            if size as usize <= BANK {
-                put_number(state, 20 + 12 * i, size);
+            if entry.kind == VALID {
+                entry.usable = size;
             }
         }
+        state.copy_from_slice(&told.bytes());
         answer
     }
 }
