@@ -11,10 +11,7 @@ use listing::listing;
 
 // It takes no argument, and a bank is not typed in.
 fn is_misused() -> bool {
-    if 1 < os::arg_count() {
-        return true;
-    }
-    libc::isatty(STDIN_FILENO) == 1
+    1 < os::arg_count() || libc::isatty(STDIN_FILENO) == 1
 }
 
 // Whether the input ends here: `io::read_full` stops short of its buffer's end where a read fails, too.
@@ -33,11 +30,9 @@ fn main() {
     }
     let mut input = io::large_buffer();
     let n = io::read_full(STDIN_FILENO, &mut input);
-    if n < 65536 {
-        if !at_end(STDIN_FILENO) {
-            os::fail(b"banklist: standard input");
-            return;
-        }
+    if n < input.len() && !at_end(STDIN_FILENO) {
+        os::fail(b"banklist: standard input");
+        return;
     }
     let mut out = [0u8; OUT];
     let k = listing(&input[..n], &mut out);
