@@ -50,9 +50,9 @@ parsedHeader s =
     cond (leb 36 (length s)) (varHeader (getD s 2 0) (u32At s 4) (nameAt s) (valueAt s) (take 16 (drop 16 s)) (u32At s 32))
     (varHeader 0 0 0 0 (replicate 16 0) 0)
 
--- the header of a record that is added (01, 'Edits and lookups'): state 0x7F, attributes 0, the type's GUID
-unfoldable pub freshHeader : VarType → ℕ → ℕ → ℕ → VarHeader
-freshHeader typ name value crc = varHeader 0x7F 0 name value (guidOf typ) crc
+-- the header of a record that is added (01, 'Edits and lookups'): state 0x7F, the type's GUID
+unfoldable pub freshHeader : VarType → ℕ → ℕ → ℕ → ℕ → VarHeader
+freshHeader typ attributes name value crc = varHeader 0x7F attributes name value (guidOf typ) crc
 
 -- a bank's part as it is left for any bytes lent: as it was where the bank or the part is too short
 unfoldable pub serializedSlot : List ℕ → List ℕ → Slot

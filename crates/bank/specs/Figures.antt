@@ -3,7 +3,7 @@ use Prim.Native.Nat.{ℕ, _+_}
 use mathlib.Core.List.{List, [], _∷_}
 use mathlib.Core.Bool.{Bool, _&&_, cond}
 use Rattle.buffers.specs.Bytes.{eqBytes}
-use Rattle.bank.specs.Record.{Record, live, sizes, systemGuid, commonGuid}
+use Rattle.bank.specs.Record.{Record, live, sizes}
 use Rattle.bank.specs.Bank.{Bank}
 
 -- those records for which a test holds, in order
@@ -22,10 +22,3 @@ liveTotal b = 24 + sizes (select live (b .records))
 -- a live record of one GUID; a third GUID is neither
 unfoldable pub liveOf : List ℕ → Record → Bool
 liveOf guid r = live r && eqBytes (r .guid) guid
-
--- live system records in sum, and common ones
-unfoldable pub systemUsed : Bank → ℕ
-systemUsed b = sizes (select (liveOf systemGuid) (b .records))
-
-unfoldable pub commonUsed : Bank → ℕ
-commonUsed b = sizes (select (liveOf commonGuid) (b .records))

@@ -1,6 +1,7 @@
 // The header of a bank: 01, 'Bank and record'.
 use super::number::le32;
 use super::number::u32_at;
+use super::variable::Variable;
 ghost use mathlib.Core.Path.{_≡_};
 ghost use Rattle.bank.specs.Header.{headerBytes, readHeader};
 
@@ -29,7 +30,7 @@ impl StoreHeader {
     pub fn parse(nvr: &[u8]) -> Head
         ensures { λ r. ⌜ r ≡ readHeader (now (nvr .entry)) ⌝ }
     {
-        if nvr.len() < 24 {
+        if nvr.len() < Variable::STORE_HEADER_SIZE {
             return Head::Signature;
         }
         let signature = StoreHeader::SIGNATURE;
@@ -40,7 +41,7 @@ impl StoreHeader {
             return Head::Version;
         }
         let size = u32_at(nvr, 4);
-        if size < 24 {
+        if size < Variable::STORE_HEADER_SIZE as u32 {
             return Head::Size;
         }
         if 65536 < size {
@@ -57,7 +58,7 @@ impl StoreHeader {
     }
 
     // The header's bytes, the reserved one 0.
-    pub fn serialize(self) -> [u8; 24]
+    pub fn serialize(self) -> [u8; Variable::STORE_HEADER_SIZE]
         ensures { λ r. ⌜ r ≡ headerBytes self ⌝ }
     {
         let sign = StoreHeader::SIGNATURE;

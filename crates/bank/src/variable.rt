@@ -117,14 +117,14 @@ impl Variable {
         }
     }
 
-    // The header of a record that is added: live, no attributes, the type's GUID.
-    pub fn fresh(typ: VarType, name_size: u32, data_size: u32, crc: u32) -> VarHeader
-        ensures { λ r. ⌜ r ≡ freshHeader typ «name_size» «data_size» crc ⌝ }
+    // The header of a record that is added: live, the type's GUID.
+    pub fn fresh(typ: VarType, attrs: u32, name_size: u32, data_size: u32, crc: u32) -> VarHeader
+        ensures { λ r. ⌜ r ≡ freshHeader typ attrs «name_size» «data_size» crc ⌝ }
     {
         let guid = Variable::guid(typ);
         VarHeader {
             state: Variable::ADDED,
-            attrs: 0,
+            attrs,
             name_size,
             data_size,
             guid,
@@ -148,7 +148,7 @@ impl Variable {
         requires { ⌜ (36 ≤ length (now nvr)) × IsTables 16 (now t) ⌝ }
         ensures { λ r. ⌜ r ≡ stepOf (found (now (nvr .entry))) ⌝ }
     {
-        if buffers::all_blank(&nvr[0..36]) {
+        if buffers::all_blank(&nvr[0..Variable::HEADER_SIZE]) {
             return Step::Halt(Stop::Blank);
         }
         if u16_at(nvr, 0) != Variable::DATA {
@@ -198,11 +198,11 @@ impl VarHeader {
     }
 
     // The header's bytes, the reserved one 0.
-    pub fn serialize(self) -> [u8; 36]
+    pub fn serialize(self) -> [u8; Variable::HEADER_SIZE]
         ensures { λ r. ⌜ r ≡ varHeaderBytes (self .state) (self .attrs) (self .«name_size») (self .«data_size») (self .guid) (self .crc) ⌝ }
     {
         let data = Variable::DATA;
-        let mut out = [0u8; 36];
+        let mut out = [0u8; Variable::HEADER_SIZE];
         out[0] = (data % 256) as u8;
         out[1] = (data / 256) as u8;
         out[2] = self.state;

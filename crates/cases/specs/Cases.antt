@@ -12,13 +12,15 @@ use Rattle.bank.specs.Record as record-specs
 use Rattle.bank.specs.Record.{Record, sizeOf, sizes, deletedState, varHeaderBytes, recordBytes, recordOf, commonGuid}
 use Rattle.bank.specs.Bank.{Slot, empty, invalid, valid, bankSize, padded}
 use Rattle.bank.specs.Read.{bankOf, found, after, turn, walk, walkFrom, usableAt, slotOf, erasedSlot, afterHead, readBank}
-use Rattle.bank.specs.Figures.{select, total, liveTotal, liveOf, systemUsed, commonUsed}
+use Rattle.bank.specs.Figures.{select, total, liveTotal, liveOf}
 use Rattle.bank.specs.declared.variable.VarType.the-variants.{Common}
 use Rattle.nvram.specs.Part.{partSize}
 use Rattle.nvram.specs.Book.{Book}
 use Rattle.nvram.specs.Opening.{readSlots, activeFrom, anyValid, Opened, opened, refused, opening}
-use Rattle.nvram.specs.Commit.{judge, request}
-use Rattle.nvram.specs.Call.{insert, remove, commit, Answer, edited, looked, handed, committed, joined, number, insertIn, removeIn, moveIn, commitAs, commitIn, commitTo, step}
+use Rattle.nvram.specs.Edit.{plain, insert, remove, editedBy, grows, refusedEdit}
+use Rattle.nvram.specs.Figures.{figuresBy, plus, figuresOf}
+use Rattle.nvram.specs.Commit.{judge, due, judgeBank, request}
+use Rattle.nvram.specs.Call.{edit, commit, Answer, edited, looked, handed, committed, joined, number, bySlot, editAs, editBank, moveIn, commitAs, commitBank, commitTo, step}
 
 pub record Row : Type 0 where
   pub got : List ℕ
@@ -60,7 +62,7 @@ begins (refused k) = k ∷ []
 
 -- what inserting and removing a key answer after an opening
 unfoldable pub afterwards : Opened → List ℕ
-afterwards (opened b) = number (step b (insert digits [] Common) .answer) ∷ number (step b (remove digits Common) .answer) ∷ []
+afterwards (opened b) = number (step b (edit (insert plain digits [] Common)) .answer) ∷ number (step b (edit (remove digits Common)) .answer) ∷ []
 afterwards (refused k) = []
 
 -- a bank of two whose one record is deleted and brings total to a number; usable is 65,536
@@ -116,5 +118,5 @@ Holds [] = Unit {0}
 Holds (r ∷ rs) = (r .got ≡ r .want) × Holds rs
 
 pub cases : Holds table
-unfolding table figures begins writes afterwards opening readSlots activeFrom anyValid bankSize partSize step insertIn removeIn moveIn commitAs commitIn commitTo judge request select liveTotal liveOf systemUsed commonUsed record-specs.live crc32Of byteSteps byteStep bitSteps bitStep polyIf allFF allBlank countFF eqBytes u16At u32At le32 headerBytes headerOf signed readHeader sizeOf sizes deletedState varHeaderBytes recordBytes recordOf padded found after turn walk walkFrom usableAt slotOf erasedSlot afterHead readBank total
+unfolding table figures begins writes afterwards opening readSlots activeFrom anyValid bankSize partSize step bySlot editBank editAs refusedEdit editedBy grows moveIn commitAs commitBank commitTo judgeBank judge due request select liveTotal liveOf figuresOf figuresBy plus record-specs.live crc32Of byteSteps byteStep bitSteps bitStep polyIf allFF allBlank countFF eqBytes u16At u32At le32 headerBytes headerOf signed readHeader sizeOf sizes deletedState varHeaderBytes recordBytes recordOf padded found after turn walk walkFrom usableAt slotOf erasedSlot afterHead readBank total
 cases = (refl, (refl, (refl, (refl, (refl, (refl, (refl, (refl, (refl, (refl, (refl, (refl, (refl, (refl, (refl, (refl, tt))))))))))))))))

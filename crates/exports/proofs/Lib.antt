@@ -2,4 +2,3 @@ pub mod StateLaws
 mod LoopLaws
 mod StoreLaws
 pub mod RunLaws
-pub mod EventLaws

@@ -2,11 +2,13 @@
 use Prim.Native.Nat.{ℕ, zero, suc, _-_, _<_}
 use mathlib.Core.Path.{_≡_, refl, sym, ap, _∙_, subst}
 use mathlib.Core.List.{List, [], _∷_, _++_, map}
+use mathlib.Core.Logic.{_≢_}
 use mathlib.Core.Bool.{Bool, true, false, cond}
 use mathlib.Core.Option.{Option, none, some}
 use native.Mathlib.Omega.{arith}
 use lib.ListN.{length, replicate, length-append, length-map, length-replicate}
 use lib.Dec.{leb}
+use Rattle.bank.specs.declared.variable.VarType.{VarType}
 use Rattle.bank.specs.Bank.{Slot, empty, invalid, valid}
 use Rattle.nvram.specs.declared.state.Kind.the-variants.{Empty}
 use Rattle.nvram.specs.declared.state.Entry.{Entry}
@@ -15,16 +17,19 @@ use Rattle.nvram.specs.Part.{entry, entryOf}
 use Rattle.nvram.specs.Book.{Book, FineBook, FineSlots}
 use Rattle.nvram.specs.Layout.{layTable, layState, view}
 use Rattle.nvram.specs.Opening.{Opened, opening}
-use Rattle.nvram.specs.Call.{ByteCall, number, erase, step}
-use Rattle.nvram.specs.Contract.{tallied, onBook, call, Does, Begun, begun}
+use Rattle.nvram.specs.Call.{Call, edit, lookup, fetch, commit, wholeImage, ByteCall, Answer, number, erase, Outcome, step}
+use Rattle.nvram.specs.Tally.{Tally, counted, tallied}
+use Rattle.nvram.specs.Contract.{onBook, call, Does, Begun, begun}
+use Rattle.nvram.proofs.Did.{refuses, reads, Did, did}
 use Rattle.nvram.proofs.SlotLaws.{part-size}
 use Rattle.nvram.proofs.StepLaws.{step-fine, Kept, keeps}
 use Rattle.run.specs.Run as run
-use Rattle.run.proofs.Agree.{starts}
+use Rattle.run.proofs.EachLaws.{each-none, each-more}
+use Rattle.run.proofs.Start.{starts}
 use Rattle.run.proofs.Demand.{demand-3}
-use Rattle.exports.specs.State.{stored, readState, FineEntries, FineState}
-use Rattle.exports.specs.Store.{After, onState, exported, fieldsOf, Calls, Start, stated, start, Opens}
-use Rattle.exports.specs.Run.{Event, Meets, Run, Never, Same, AllSame, Claim}
+use Rattle.exports.specs.State.{stateSize, stored, readState, FineEntries, FineState}
+use Rattle.exports.specs.Store.{After, onState, exported, Tells, Calls, Start, stated, start, Opens}
+use Rattle.exports.specs.Run.{Event, Run, refusedBy, Never, Same, AllSame, Claim}
 use Rattle.exports.proofs.StateLaws.{stored-back}
 
 -- what is laid out of a book fits into the state's bytes
@@ -41,7 +46,7 @@ entries-fine (invalid ∷ ss) es f g = ((omega arith, omega arith), entries-fine
 entries-fine (valid b ∷ ss) es f g =
     ((omega (arith, f .0 .1, part-size), omega (arith, f .0 .0 .usable-high, f .0 .0 .header-fine .size-high)), entries-fine ss es (f .1) g)
 
-laid-fine : (b : Book) (tally : ℕ) → FineBook b → tally < 4294967296 → FineState (layState b tally)
+laid-fine : (b : Book) (tally : Tally) → FineBook b → tally < 4294967296 → FineState (layState b tally)
 unfolding layTable
 laid-fine b tally f h =
     record {
@@ -54,9 +59,16 @@ laid-fine b tally f h =
       banks-fine = entries-fine (b .slots) (replicate (16 - length (b .slots)) (entry Empty 0 0)) (f .slots-fine) (free-fine (16 - length (b .slots)));
     }
 
-tallied-fits : (tally : ℕ) (o : Option ℕ) → tally < 4294967296 → tallied tally o < 4294967296
-tallied-fits tally none h = h
-tallied-fits tally (some offset) h = omega arith
+counted-fits : (o : Option ℕ) (t : Tally) → t < 4294967296 → counted o t < 4294967296
+counted-fits none t h = h
+counted-fits (some offset) t h = omega arith
+
+tallied-fits : (c : Call) (a : Answer) (t : Tally) → t < 4294967296 → tallied c a t < 4294967296
+tallied-fits (edit e) a t h = h
+tallied-fits (lookup key typ) a t h = h
+tallied-fits (fetch key typ) a t h = h
+tallied-fits (commit room) a t h = counted-fits (erase a) t h
+tallied-fits (wholeImage room) a t h = h
 
 -- the bytes hold a state, and the state a book
 record At (bs w : List ℕ) (s : Nvram) : Type 0 where
@@ -66,96 +78,108 @@ record At (bs w : List ℕ) (s : Nvram) : Type 0 where
   fine : FineBook book
   tally : s .tally < 4294967296
 
+-- no call of a list is refused by 12
+abbrev No12 : List run.Event → Type 0
+No12 [] = Unit {0}
+No12 (f ∷ fs) = (number (f .answer) ≢ 12) × No12 fs
+
 record Followed (s : Nvram) (w : List ℕ) (es : List Event) : Type 0 where
   events : List run.Event
   runs : run.Run s w events
   same : AllSame es events
+  never : Never 12 es → No12 events
 
-module _ (bs w : List ℕ) (s : Nvram) (a : At bs w s) (e : Event) (m : Meets bs w e) where
-  abbrev y : ByteCall (e .call)
-  y = m .bytes
+-- fetched bytes have no number
+fetch-number : (b : Book) (key : List ℕ) (typ : VarType) (o : Outcome) → Did b (fetch key typ) o → number (o .answer) ≡ 0
+fetch-number b key typ o (refuses k n) = refl
+fetch-number b key typ o (reads a x r) = ap number r
 
-  abbrev d : Calls (e .call) bs w (e .number) (e .out) (e .state) (e .work)
-  d = m .does
+not-12 : (b : Book) (c : Call) (x o : List ℕ) (r : ℕ) (q o′ : List ℕ) → Tells c (step b c .answer) x o r q o′ → refusedBy c r ≢ 12
+    → number (step b c .answer) ≢ 12
+not-12 b (edit e) x o r q o′ t h p = h (t ∙ p)
+not-12 b (lookup key typ) x o r q o′ t h p = h (t .0 ∙ p)
+not-12 b (fetch key typ) x o r q o′ t h p = absurd (omega (arith, fetch-number b key typ (step b (fetch key typ)) (did b (fetch key typ))))
+not-12 b (commit room) x o r q o′ t h p = h (t .returned ∙ p)
+not-12 b (wholeImage room) x o r q o′ t h p = h (t .returned ∙ p)
 
-  after : exported (e .call) bs w ≡ onState (some s) (e .call) bs w
+module _ (bs w : List ℕ) (s : Nvram) (a : At bs w s) (e : Event) (y : ByteCall (e .call))
+    (d : Calls (e .call) bs w (e .lent) (e .returned) (e .fields) (e .state) (e .work) (e .output)) where
+  abbrev c : Call
+  c = e .call
+
+  after : exported c bs w ≡ onState (some s) c bs w
   unfolding exported
-  after = ap (λ (o : Option Nvram). onState o (e .call) bs w) (a .read)
+  after = ap (λ (o : Option Nvram). onState o c bs w) (a .read)
 
   event : run.Event
-  event =
-      record {
-        call = e .call;
-        answer = call (e .call) s w .answer;
-        out = e .out;
-        state = call (e .call) s w .state;
-        work = e .work;
-      }
+  event = record { call = c; answer = call c s w .answer; out = call c s w .out; state = call c s w .state; work = e .work }
 
-  does : Does (e .call) s w (event .answer) (e .out) (event .state) (e .work)
+  does : Does c s w (event .answer) (event .out) (event .state) (e .work)
   unfolding onState event
-  does =
-      record {
-        answer = refl;
-        out = d .out ∙ ap (λ (x : After). x .out) after;
-        state = refl;
-        work = d .work ∙ ap (λ (x : After). x .work) after;
-      }
+  does = record { answer = refl; out = refl; state = refl; work = d .work ∙ ap (λ (x : After). x .work) after }
 
-  kept : Kept (e .call) (a .book) s (event .answer) (e .out) (event .state) (e .work)
-  kept = keeps (e .call) s w (a .book) (event .answer) (e .out) (event .state) (e .work) y (a .fine) (a .viewed) does
+  kept : Kept c (a .book) s (event .answer) (event .out) (event .state) (e .work)
+  kept = keeps c s w (a .book) (event .answer) (event .out) (event .state) (e .work) y (a .fine) (a .viewed) does
 
-  laid : event .state ≡ layState (step (a .book) (e .call) .laid) (tallied (s .tally) (erase (step (a .book) (e .call) .answer)))
+  laid : event .state ≡ layState (step (a .book) c .laid) (tallied c (step (a .book) c .answer) (s .tally))
   unfolding event call onBook
-  laid = ap (λ (o : Option Book). onBook o (e .call) s w .state) (a .viewed)
+  laid = ap (λ (o : Option Book). onBook o c s w .state) (a .viewed)
 
   state-read : readState (e .state) ≡ some (event .state)
   unfolding onState event
   state-read =
       ap readState (d .state ∙ ap (λ (x : After). x .state) after)
-      ∙ stored-back (call (e .call) s w .state) bs
+      ∙ stored-back (call c s w .state) bs
       (subst FineState (sym laid)
-      (laid-fine (step (a .book) (e .call) .laid) (tallied (s .tally) (erase (step (a .book) (e .call) .answer))) (step-fine (a .book) (e .call) y (a .fine))
-      (tallied-fits (s .tally) (erase (step (a .book) (e .call) .answer)) (a .tally))))
+      (laid-fine (step (a .book) c .laid) (tallied c (step (a .book) c .answer) (s .tally)) (step-fine (a .book) c y (a .fine))
+      (tallied-fits c (step (a .book) c .answer) (s .tally) (a .tally))))
 
   next : At (e .state) (e .work) (event .state)
   next =
       record {
         read = state-read;
-        book = step (a .book) (e .call) .laid;
+        book = step (a .book) c .laid;
         viewed = kept .viewed;
-        fine = step-fine (a .book) (e .call) y (a .fine);
-        tally = subst (λ (n : ℕ). n < 4294967296) (sym (kept .tally)) (tallied-fits (s .tally) (erase (event .answer)) (a .tally));
+        fine = step-fine (a .book) c y (a .fine);
+        tally = subst (λ (n : ℕ). n < 4294967296) (sym (kept .tally)) (tallied-fits c (event .answer) (s .tally) (a .tally));
       }
+
+  abbrev Told : After → Type 0
+  Told x = Tells c (x .answer) (x .out) (e .lent) (e .returned) (e .fields) (e .output)
 
   same : Same e event
   unfolding onState event
-  same =
-      record {
-        call = refl;
-        number-is = sym (d .number ∙ ap (λ (x : After). number (x .answer)) after);
-        fields = sym (m .read ∙ ap (λ (x : After). fieldsOf (x .answer)) after);
-        out = refl;
-        state = state-read;
-        work = refl;
-      }
+  same = record { call = refl; tells = subst Told after (d .tells); state = state-read; work = refl }
+
+  never-12 : refusedBy c (e .returned) ≢ 12 → number (event .answer) ≢ 12
+  never-12 h p =
+      not-12 (a .book) c (event .out) (e .lent) (e .returned) (e .fields) (e .output)
+      (subst (λ (x : Answer). Tells c x (event .out) (e .lent) (e .returned) (e .fields) (e .output)) (kept .answer) (same .tells)) h (sym (ap number (kept .answer)) ∙ p)
 
 follow : (bs w : List ℕ) (s : Nvram) (es : List Event) → At bs w s → Run bs w es → Followed s w es
 unfolding event
-follow bs w s [] a r = record { events = []; runs = tt; same = tt }
+follow bs w s [] a r = record { events = []; runs = tt; same = tt; never = λ h. tt }
 follow bs w s (e ∷ es) a r =
-    let m = follow (e .state) (e .work) (event bs w s a e (r .0) .state) es (next bs w s a e (r .0)) (r .1) in
+    let y = r .0 in
+    let d = r .1 in
+    let m = follow (e .state) (e .work) (event bs w s a e y d .state) es (next bs w s a e y d) (r .2) in
     record {
-      events = event bs w s a e (r .0) ∷ m .events;
-      runs = (r .0 .bytes, does bs w s a e (r .0), m .runs);
-      same = (same bs w s a e (r .0), m .same);
+      events = event bs w s a e y d ∷ m .events;
+      runs = (y, does bs w s a e y d, m .runs);
+      same = (same bs w s a e y d, m .same);
+      never = λ h. (never-12 bs w s a e y d (h .0), m .never (h .1));
     }
+
+never-of : (b : Book) (fs : List run.Event) → No12 fs → run.Never 12 (run.pages b fs)
+unfolding run.pages
+never-of b [] n = each-none _
+never-of b (f ∷ fs) n = each-more _ _ _ (n .0) (never-of (step b (f .call) .after) fs (n .1))
 
 -- an opening that is accepted had bytes enough for the state
 begins : (image bs w bs′ w′ : List ℕ) → Opens image bs w 0 bs′ w′
     → (begun (opening image (length w)) w .number ≡ 0) × (bs′ ≡ stored (begun (opening image (length w)) w .state) bs) × (w′ ≡ begun (opening image (length w)) w .work)
 unfolding start
-begins image bs w bs′ w′ o = go (leb 204 (length bs)) (o .number) (o .state) (o .work)
+begins image bs w bs′ w′ o = go (leb stateSize (length bs)) (o .number) (o .state) (o .work)
   where
     x : Begun
     x = begun (opening image (length w)) w
@@ -167,12 +191,6 @@ begins image bs w bs′ w′ o = go (leb 204 (length bs)) (o .number) (o .state)
         → (x .number ≡ 0) × (bs′ ≡ stored (x .state) bs) × (w′ ≡ x .work)
     go true n s v = (sym n, s, v)
     go false n s v = absurd (omega arith)
-
-never : (n : ℕ) (es : List Event) (fs : List run.Event) → AllSame es fs → Never n es → run.Never n fs
-never n [] [] a h = tt
-never n [] (f ∷ fs) a h = absurd a
-never n (e ∷ es) [] a h = absurd a
-never n (e ∷ es) (f ∷ fs) a h = ((λ q. h .0 (sym (a .0 .number-is) ∙ q)), never n es fs (a .1) (h .1))
 
 pub exported-3 : Claim
 unfolding begun
@@ -194,5 +212,5 @@ exported-3 image bs w bs′ w′ es y o r h =
       opens = opens;
       runs = m .runs;
       same = m .same;
-      demand = demand-3 image w (x .state) w′ (m .events) opens (m .runs) (never 12 es (m .events) (m .same) h);
+      demand = demand-3 image w (x .state) w′ (m .events) opens (m .runs) (never-of (run.openedBook image) (m .events) (m .never h));
     }

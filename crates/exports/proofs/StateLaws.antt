@@ -18,7 +18,7 @@ use Rattle.nvram.specs.declared.state.Kind.the-variants.{Empty, Invalid, Valid}
 use Rattle.nvram.specs.declared.state.Entry.{Entry}
 use Rattle.nvram.specs.declared.state.Nvram.{Nvram}
 use Rattle.nvram.specs.Contract.{noState}
-use Rattle.exports.specs.State.{kindNumber, three, entryBytes, entriesBytes, stateBytes, stored, kindOf, entryAt, entriesAt, stateAt, kindsKnown, readState, FineEntries, FineState}
+use Rattle.exports.specs.State.{stateHead, entrySize, stateSize, kindNumber, three, entryBytes, entriesBytes, stateBytes, stored, kindOf, entryAt, entriesAt, stateAt, kindsKnown, readState, FineEntries, FineState}
 
 -- lengths
 
@@ -26,13 +26,13 @@ pub length-three : (a b c : ℕ) → length (three a b c) ≡ 12
 unfolding le32
 length-three a b c = refl
 
-pub length-entries : (es : List Entry) → length (entriesBytes es) ≡ 12 * length es
+pub length-entries : (es : List Entry) → length (entriesBytes es) ≡ entrySize * length es
 unfolding entriesBytes
 length-entries [] = refl
 length-entries (e ∷ es) =
     length-append (entryBytes e) (entriesBytes es) ∙ omega (arith, length-three (kindNumber (e .kind)) (e .total) (e .usable), length-entries es)
 
-pub length-state : (s : Nvram) → length (s .banks) ≡ 16 → length (stateBytes s) ≡ 204
+pub length-state : (s : Nvram) → length (s .banks) ≡ 16 → length (stateBytes s) ≡ stateSize
 unfolding stateBytes
 length-state s h =
     length-append (three (s .n) (s .active) (s .tally)) (entriesBytes (s .banks))
@@ -41,10 +41,10 @@ length-state s h =
 pub length-read : (n : ℕ) (bs : List ℕ) → length (entriesAt n bs) ≡ n
 unfolding entriesAt
 length-read zero bs = refl
-length-read (suc n) bs = ap suc (length-read n (drop 12 bs))
+length-read (suc n) bs = ap suc (length-read n (drop entrySize bs))
 
 -- a refused opening's state is zeros
-pub no-state-zeros : stateBytes noState ≡ replicate 204 0
+pub no-state-zeros : stateBytes noState ≡ replicate stateSize 0
 unfolding stateBytes entriesBytes le32
 no-state-zeros = refl
 
@@ -95,7 +95,7 @@ entries-back (e ∷ es) q f =
     ∙ ap₂ (λ (x : Entry) (xs : List Entry). x ∷ xs) (entry-back e p (f .0 .0) (f .0 .1))
     (ap (entriesAt (length es)) (entry-three e p (f .0 .0) (f .0 .1) .rest) ∙ entries-back es q (f .1))
 
-pub read-known : (bs : List ℕ) → 204 ≤ length bs → kindsKnown 16 (drop 12 bs) ≡ true → readState bs ≡ some (stateAt bs)
+pub read-known : (bs : List ℕ) → stateSize ≤ length bs → kindsKnown 16 (drop stateHead bs) ≡ true → readState bs ≡ some (stateAt bs)
 unfolding readState
 read-known bs h k = rw (le-leb _ _ h, k)
 
@@ -106,12 +106,12 @@ state-back s rest f =
     let head = three (s .n) (s .active) (s .tally) in
     let q = entriesBytes es ++ rest in
     let t = three-back (s .n) (s .active) (s .tally) q (f .n-fits) (f .active-fits) (f .tally-fits) in
-    let room : 204 ≤ length (head ++ q) =
+    let room : stateSize ≤ length (head ++ q) =
     omega
     (arith, length-append head q, length-append (entriesBytes es) rest, length-three (s .n) (s .active) (s .tally), length-entries es, f .banks-long) in
-    let known : kindsKnown 16 (drop 12 (head ++ q)) ≡ true =
+    let known : kindsKnown 16 (drop stateHead (head ++ q)) ≡ true =
     ap₂ kindsKnown (sym (f .banks-long)) (t .rest) ∙ known-back es rest (f .banks-fine) in
-    let banks : entriesAt 16 (drop 12 (head ++ q)) ≡ es =
+    let banks : entriesAt 16 (drop stateHead (head ++ q)) ≡ es =
     ap₂ entriesAt (sym (f .banks-long)) (t .rest) ∙ entries-back es rest (f .banks-fine) in
     ap readState (append-assoc head (entriesBytes es) rest) ∙ read-known (head ++ q) room known
     ∙ (λ i. some (record { n = t .first i; active = t .second i; tally = t .third i; banks = banks i }))
@@ -119,20 +119,20 @@ state-back s rest f =
 -- what one call stores, the next reads
 pub stored-back : (s : Nvram) (bs : List ℕ) → FineState s → readState (stored s bs) ≡ some s
 unfolding stored
-stored-back s bs f = state-back s (drop 204 bs) f
+stored-back s bs f = state-back s (drop stateSize bs) f
 
 -- a state that was read, in bytes
 
 pub record Read (bs : List ℕ) (s : Nvram) : Type 0 where
-  pub room : 204 ≤ length bs
-  pub known : kindsKnown 16 (drop 12 bs) ≡ true
+  pub room : stateSize ≤ length bs
+  pub known : kindsKnown 16 (drop stateHead bs) ≡ true
   pub is : s ≡ stateAt bs
 
 pub read-is : (bs : List ℕ) (s : Nvram) → readState bs ≡ some s → Read bs s
 unfolding readState
-read-is bs s e = go (leb 204 (length bs)) (kindsKnown 16 (drop 12 bs)) refl refl e
+read-is bs s e = go (leb stateSize (length bs)) (kindsKnown 16 (drop stateHead bs)) refl refl e
   where
-    go : (a b : Bool) → leb 204 (length bs) ≡ a → kindsKnown 16 (drop 12 bs) ≡ b → cond (a && b) (some (stateAt bs)) none ≡ some s → Read bs s
+    go : (a b : Bool) → leb stateSize (length bs) ≡ a → kindsKnown 16 (drop stateHead bs) ≡ b → cond (a && b) (some (stateAt bs)) none ≡ some s → Read bs s
     go true true p q e = record { room = leb-true _ _ p; known = q; is = cc }
     go true false p q e = let z : _≡_ {A = ℕ} 0 1 = cc in absurd (omega arith)
     go false b p q e = let z : _≡_ {A = ℕ} 0 1 = cc in absurd (omega arith)
@@ -154,24 +154,24 @@ kind-known (suc zero) h = refl
 kind-known (suc (suc zero)) h = refl
 kind-known (suc (suc (suc k))) h = absurd (omega arith)
 
-entry-split : (bs : List ℕ) → Bytes bs → 12 ≤ length bs → u32At bs 0 ≤ 2 → entryBytes (entryAt bs) ++ drop 12 bs ≡ bs
+entry-split : (bs : List ℕ) → Bytes bs → entrySize ≤ length bs → u32At bs 0 ≤ 2 → entryBytes (entryAt bs) ++ drop entrySize bs ≡ bs
 unfolding entryAt
-entry-split bs k h e = ap (λ (n : ℕ). three n (u32At bs 4) (u32At bs 8) ++ drop 12 bs) (kind-known (u32At bs 0) e) ∙ three-split bs k h
+entry-split bs k h e = ap (λ (n : ℕ). three n (u32At bs 4) (u32At bs 8) ++ drop entrySize bs) (kind-known (u32At bs 0) e) ∙ three-split bs k h
 
-entries-split : (n : ℕ) (bs : List ℕ) → Bytes bs → 12 * n ≤ length bs → kindsKnown n bs ≡ true → entriesBytes (entriesAt n bs) ++ drop (12 * n) bs ≡ bs
+entries-split : (n : ℕ) (bs : List ℕ) → Bytes bs → entrySize * n ≤ length bs → kindsKnown n bs ≡ true → entriesBytes (entriesAt n bs) ++ drop (entrySize * n) bs ≡ bs
 unfolding kindsKnown entriesAt entriesBytes
 entries-split zero bs k h e = refl
-entries-split (suc n) bs k h e = go (leb (u32At bs 0) 2) refl (entries-split n (drop 12 bs) (bytes-drop 12 bs k) (omega (arith, length-drop 12 bs))) e
+entries-split (suc n) bs k h e = go (leb (u32At bs 0) 2) refl (entries-split n (drop entrySize bs) (bytes-drop entrySize bs k) (omega (arith, length-drop entrySize bs))) e
   where
     go : (t : Bool) → leb (u32At bs 0) 2 ≡ t
-        → (kindsKnown n (drop 12 bs) ≡ true → entriesBytes (entriesAt n (drop 12 bs)) ++ drop (12 * n) (drop 12 bs) ≡ drop 12 bs)
-        → (t && kindsKnown n (drop 12 bs)) ≡ true
-        → (entryBytes (entryAt bs) ++ entriesBytes (entriesAt n (drop 12 bs))) ++ drop (12 * suc n) bs ≡ bs
+        → (kindsKnown n (drop entrySize bs) ≡ true → entriesBytes (entriesAt n (drop entrySize bs)) ++ drop (entrySize * n) (drop entrySize bs) ≡ drop entrySize bs)
+        → (t && kindsKnown n (drop entrySize bs)) ≡ true
+        → (entryBytes (entryAt bs) ++ entriesBytes (entriesAt n (drop entrySize bs))) ++ drop (entrySize * suc n) bs ≡ bs
     go true p f e =
-        let m : 12 * suc n ≡ 12 + 12 * n = omega arith in
-        append-assoc (entryBytes (entryAt bs)) (entriesBytes (entriesAt n (drop 12 bs))) (drop (12 * suc n) bs)
-        ∙ ap (λ (q : List ℕ). entryBytes (entryAt bs) ++ (entriesBytes (entriesAt n (drop 12 bs)) ++ q))
-        (ap (λ (i : ℕ). drop i bs) m ∙ sym (drop-drop (12 * n) 12 bs))
+        let m : entrySize * suc n ≡ entrySize + entrySize * n = omega arith in
+        append-assoc (entryBytes (entryAt bs)) (entriesBytes (entriesAt n (drop entrySize bs))) (drop (entrySize * suc n) bs)
+        ∙ ap (λ (q : List ℕ). entryBytes (entryAt bs) ++ (entriesBytes (entriesAt n (drop entrySize bs)) ++ q))
+        (ap (λ (i : ℕ). drop i bs) m ∙ sym (drop-drop (entrySize * n) entrySize bs))
         ∙ ap (λ (q : List ℕ). entryBytes (entryAt bs) ++ q) (f e)
         ∙ entry-split bs k (omega arith) (leb-true _ _ p)
     go false p f e = let z : _≡_ {A = ℕ} 0 1 = cc in absurd (omega arith)
@@ -181,16 +181,16 @@ unfolding stored stateBytes stateAt
 bytes-back bs s k e =
     let r = read-is bs s e in
     let head = three (u32At bs 0) (u32At bs 4) (u32At bs 8) in
-    let es = entriesBytes (entriesAt 16 (drop 12 bs)) in
-    ap (λ (x : Nvram). stored x bs) (r .is) ∙ append-assoc head es (drop 204 bs)
-    ∙ ap (λ (q : List ℕ). head ++ (es ++ q)) (sym (drop-drop 192 12 bs))
-    ∙ ap (λ (q : List ℕ). head ++ q) (entries-split 16 (drop 12 bs) (bytes-drop 12 bs k) (omega (arith, r .room, length-drop 12 bs)) (r .known))
+    let es = entriesBytes (entriesAt 16 (drop stateHead bs)) in
+    ap (λ (x : Nvram). stored x bs) (r .is) ∙ append-assoc head es (drop stateSize bs)
+    ∙ ap (λ (q : List ℕ). head ++ (es ++ q)) (sym (drop-drop (16 * entrySize) stateHead bs))
+    ∙ ap (λ (q : List ℕ). head ++ q) (entries-split 16 (drop stateHead bs) (bytes-drop stateHead bs k) (omega (arith, r .room, length-drop stateHead bs)) (r .known))
     ∙ three-split bs k (omega (arith, r .room))
 
 entries-fine : (n : ℕ) (bs : List ℕ) → Bytes bs → FineEntries (entriesAt n bs)
 unfolding entriesAt entryAt
 entries-fine zero bs k = tt
-entries-fine (suc n) bs k = ((u32-lt bs 4 k, u32-lt bs 8 k), entries-fine n (drop 12 bs) (bytes-drop 12 bs k))
+entries-fine (suc n) bs k = ((u32-lt bs 4 k, u32-lt bs 8 k), entries-fine n (drop entrySize bs) (bytes-drop entrySize bs k))
 
 pub read-fine : (bs : List ℕ) (s : Nvram) → Bytes bs → readState bs ≡ some s → FineState s
 unfolding stateAt
@@ -200,7 +200,7 @@ read-fine bs s k e =
       n-fits = u32-lt bs 0 k;
       active-fits = u32-lt bs 4 k;
       tally-fits = u32-lt bs 8 k;
-      banks-long = length-read 16 (drop 12 bs);
-      banks-fine = entries-fine 16 (drop 12 bs) (bytes-drop 12 bs k);
+      banks-long = length-read 16 (drop stateHead bs);
+      banks-fine = entries-fine 16 (drop stateHead bs) (bytes-drop entrySize bs k);
     } in
     subst FineState (sym (read-is bs s e .is)) fine

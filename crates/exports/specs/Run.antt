@@ -6,42 +6,45 @@ use mathlib.Core.List.{List, [], _∷_}
 use mathlib.Core.Option.{some}
 use Rattle.crc32.specs.Crc32.{Bytes}
 use Rattle.nvram.specs.declared.state.Nvram.{Nvram}
-use Rattle.nvram.specs.Call.{Call, ByteCall, number}
+use Rattle.nvram.specs.Call.{Call, edit, lookup, fetch, commit, wholeImage, ByteCall}
 use Rattle.run.specs.Run as run
 use Rattle.run.specs.Demand.{Demand3}
 use Rattle.exports.specs.State.{readState}
-use Rattle.exports.specs.Store.{exported, fieldsOf, Calls, Opens}
+use Rattle.exports.specs.Store.{Tells, Calls, Opens}
 
--- an exported call: the number and the fields that it answered, the bytes it handed back, the state's bytes and the work area that it left
+-- an exported call: the output that it was lent, what it returned, the fields that it answered, the output, the state's bytes and the work
+-- area that it left
 pub record Event : Type 0 where
   pub call : Call
-  pub number : ℕ
+  pub lent : List ℕ
+  pub returned : ℕ
   pub fields : List ℕ
-  pub out : List ℕ
+  pub output : List ℕ
   pub state : List ℕ
   pub work : List ℕ
 
--- what the contract of every exported call says of it
-pub record Meets (bs w : List ℕ) (e : Event) : Type 0 where
-  pub bytes : ByteCall (e .call)
-  pub does : Calls (e .call) bs w (e .number) (e .out) (e .state) (e .work)
-  pub read : e .fields ≡ fieldsOf (exported (e .call) bs w .answer)
-
--- each call is given what the one before left
+-- each call meets its function's contract on what the one before left
 abbrev pub Run : List ℕ → List ℕ → List Event → Type 0
 Run bs w [] = Unit {0}
-Run bs w (e ∷ es) = Meets bs w e × Run (e .state) (e .work) es
+Run bs w (e ∷ es) =
+    ByteCall (e .call) × Calls (e .call) bs w (e .lent) (e .returned) (e .fields) (e .state) (e .work) (e .output) × Run (e .state) (e .work) es
+
+-- the refusal's number in what a function returns, or 0: a value's call returns a length
+abbrev pub refusedBy : Call → ℕ → ℕ
+refusedBy (edit e) r = r
+refusedBy (lookup key typ) r = r
+refusedBy (fetch key typ) r = 0
+refusedBy (commit room) r = r
+refusedBy (wholeImage room) r = r
 
 abbrev pub Never : ℕ → List Event → Type 0
 Never n [] = Unit {0}
-Never n (e ∷ es) = (e .number ≢ n) × Never n es
+Never n (e ∷ es) = (refusedBy (e .call) (e .returned) ≢ n) × Never n es
 
--- an event of demand 3 that is the same call: what the caller read is in its answer, and its state is what the bytes hold
+-- an event of demand 3 that is the same call: the caller is told its answer and its bytes, and its state is what the bytes hold
 pub record Same (e : Event) (f : run.Event) : Type 0 where
   pub call : f .call ≡ e .call
-  pub number-is : number (f .answer) ≡ e .number
-  pub fields : fieldsOf (f .answer) ≡ e .fields
-  pub out : f .out ≡ e .out
+  pub tells : Tells (e .call) (f .answer) (f .out) (e .lent) (e .returned) (e .fields) (e .output)
   pub state : readState (e .state) ≡ some (f .state)
   pub work : f .work ≡ e .work
 

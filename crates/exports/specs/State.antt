@@ -1,5 +1,5 @@
--- The state as 204 bytes: n, active, tally, then 16 entries of kind (0 Empty, 1 Invalid, 2 Valid), total and usable; each number four bytes, least first.
-use Prim.Native.Nat.{ℕ, zero, suc, _<_}
+-- The state as bytes: n, active, tally, then 16 entries of kind (0 Empty, 1 Invalid, 2 Valid), total and usable; each number four bytes, least first.
+use Prim.Native.Nat.{ℕ, zero, suc, _+_, _*_, _<_}
 use mathlib.Core.Path.{_≡_}
 use mathlib.Core.List.{List, [], _∷_, _++_}
 use mathlib.Core.Bool.{Bool, true, false, _&&_, cond}
@@ -14,6 +14,15 @@ use Rattle.nvram.specs.declared.state.Nvram.{Nvram}
 use Rattle.nvram.specs.Part.{entry}
 use Rattle.nvram.specs.Contract.{noState}
 use Rattle.exports.specs.declared.state.Loaded.{Loaded}
+
+abbrev pub stateHead : ℕ
+stateHead = 12
+
+abbrev pub entrySize : ℕ
+entrySize = 12
+
+abbrev pub stateSize : ℕ
+stateSize = stateHead + 16 * entrySize
 
 -- written
 
@@ -37,7 +46,7 @@ stateBytes s = three (s .n) (s .active) (s .tally) ++ entriesBytes (s .banks)
 
 -- bytes past the state are left
 unfoldable pub stored : Nvram → List ℕ → List ℕ
-stored s bs = stateBytes s ++ drop 204 bs
+stored s bs = stateBytes s ++ drop stateSize bs
 
 -- read
 
@@ -49,19 +58,19 @@ entryAt bs = entry (kindOf (u32At bs 0)) (u32At bs 4) (u32At bs 8)
 
 unfoldable pub entriesAt : ℕ → List ℕ → List Entry
 entriesAt zero bs = []
-entriesAt (suc n) bs = entryAt bs ∷ entriesAt n (drop 12 bs)
+entriesAt (suc n) bs = entryAt bs ∷ entriesAt n (drop entrySize bs)
 
 unfoldable pub stateAt : List ℕ → Nvram
-stateAt bs = record { n = u32At bs 0; active = u32At bs 4; tally = u32At bs 8; banks = entriesAt 16 (drop 12 bs) }
+stateAt bs = record { n = u32At bs 0; active = u32At bs 4; tally = u32At bs 8; banks = entriesAt 16 (drop stateHead bs) }
 
 -- n entries whose kind number is none above 2
 unfoldable pub kindsKnown : ℕ → List ℕ → Bool
 kindsKnown zero bs = true
-kindsKnown (suc n) bs = leb (u32At bs 0) 2 && kindsKnown n (drop 12 bs)
+kindsKnown (suc n) bs = leb (u32At bs 0) 2 && kindsKnown n (drop entrySize bs)
 
 -- nothing where the bytes are too few or a kind number is unknown; bytes past the state are ignored
 unfoldable pub readState : List ℕ → Option Nvram
-readState bs = cond (leb 204 (length bs) && kindsKnown 16 (drop 12 bs)) (some (stateAt bs)) none
+readState bs = cond (leb stateSize (length bs) && kindsKnown 16 (drop stateHead bs)) (some (stateAt bs)) none
 
 -- as the code hands it on: zeros where there is no state
 abbrev pub loaded : Option Nvram → Loaded

@@ -10,10 +10,10 @@ use Rattle.buffers.specs.Bytes.{onto}
 use Rattle.bank.specs.declared.variable.VarType.{VarType}
 use Rattle.bank.specs.declared.variable.VarType.the-variants.{Common, System}
 use Rattle.nvram.specs.declared.state.Nvram.{Nvram}
-use Rattle.nvram.specs.Call.{Call, Answer, edited, looked, handed, committed, joined, number, refusal}
+use Rattle.nvram.specs.Call.{Call, edit, lookup, fetch, commit, wholeImage, Answer, edited, looked, handed, committed, joined, number, refusal}
 use Rattle.nvram.specs.Contract.{call, Begun, begun}
 use Rattle.nvram.specs.Opening.{opening}
-use Rattle.exports.specs.State.{readState, stored}
+use Rattle.exports.specs.State.{stateSize, readState, stored}
 
 -- 0 is Common, every other number System
 abbrev pub typeOf : ℕ → VarType
@@ -42,8 +42,8 @@ onState (some s) c bs w =
 unfoldable pub exported : Call → List ℕ → List ℕ → After
 exported c bs w = onState (readState bs) c bs w
 
--- what the caller reads beside the number: of a lookup found 1 or 0, place and length; of a commit 1 or 0 for an erase request, its offset,
--- the write's offset and length; of a whole image the length
+-- what is answered beside a number: of a lookup found 1 or 0, place and length; of a commit 1 or 0 for an erase request, its offset, the
+-- write's offset and length; of a whole image the length
 abbrev pub fieldsOf : Answer → List ℕ
 fieldsOf (edited k) = []
 fieldsOf (looked k none) = 0 ∷ 0 ∷ 0 ∷ []
@@ -61,30 +61,27 @@ lengthOf handed = 0
 lengthOf (committed k e offset long) = long
 lengthOf (joined k long) = long
 
--- the number r, the bytes x handed back, the state's bytes bs′ and the work area w′ are those of the definition
-pub record Calls (c : Call) (bs w : List ℕ) (r : ℕ) (x bs′ w′ : List ℕ) : Type 0 where
-  pub number : r ≡ number (exported c bs w .answer)
-  pub out : x ≡ exported c bs w .out
+-- a commit or a whole image whose answer is a, with the bytes x: it returns the number r, answers the fields q, and leaves an output o as o′
+pub record Written (a : Answer) (x o : List ℕ) (r : ℕ) (q o′ : List ℕ) : Type 0 where
+  pub returned : r ≡ number a
+  pub fields : q ≡ fieldsOf a
+  pub bytes : take (lengthOf a) o′ ≡ x
+  pub rest : drop (lengthOf a) o′ ≡ drop (lengthOf a) o
+
+-- what a caller is told of an answer a and the bytes x handed back: the function returns r, answers the fields q, and leaves a lent output o
+-- as o′. An edit has neither fields nor output, a lookup no output; a value's call returns the length, and copies as far as the output reaches
+abbrev pub Tells : Call → Answer → List ℕ → List ℕ → ℕ → List ℕ → List ℕ → Type 0
+Tells (edit e) a x o r q o′ = r ≡ number a
+Tells (lookup key typ) a x o r q o′ = (r ≡ number a) × (q ≡ fieldsOf a)
+Tells (fetch key typ) a x o r q o′ = (r ≡ length x) × (o′ ≡ onto x o)
+Tells (commit room) a x o r q o′ = Written a x o r q o′
+Tells (wholeImage room) a x o r q o′ = Written a x o r q o′
+
+-- the contract of every exported call: what it tells, the state's bytes bs′ and the work area w′ are those of the definition
+pub record Calls (c : Call) (bs w o : List ℕ) (r : ℕ) (q bs′ w′ o′ : List ℕ) : Type 0 where
+  pub tells : Tells c (exported c bs w .answer) (exported c bs w .out) o r q o′
   pub state : bs′ ≡ exported c bs w .state
   pub work : w′ ≡ exported c bs w .work
-
--- a lookup: o is what the caller reads
-pub record Finds (c : Call) (bs w : List ℕ) (r : ℕ) (o : List ℕ) : Type 0 where
-  pub does : Calls c bs w r [] bs w
-  pub found : o ≡ fieldsOf (exported c bs w .answer)
-
--- a commit or a whole image, whose output o is left as o′: the bytes handed back, then what stood there; q is what the caller reads
-pub record Writes (c : Call) (bs w o : List ℕ) (r : ℕ) (q bs′ w′ o′ : List ℕ) : Type 0 where
-  pub does : Calls c bs w r (take (lengthOf (exported c bs w .answer)) o′) bs′ w′
-  pub fields : q ≡ fieldsOf (exported c bs w .answer)
-  pub rest : drop (lengthOf (exported c bs w .answer)) o′ ≡ drop (lengthOf (exported c bs w .answer)) o
-
--- bytes handed back over the front of o, which leaves o′; r is how many they are
-pub record Hands (c : Call) (bs w : List ℕ) (r : ℕ) (o o′ : List ℕ) : Type 0 where
-  pub long : r ≡ length (exported c bs w .out)
-  pub out : o′ ≡ onto (exported c bs w .out) o
-  pub state : bs ≡ exported c bs w .state
-  pub work : w ≡ exported c bs w .work
 
 -- an opening
 
@@ -99,7 +96,7 @@ stated b bs = record { number = b .number; state = stored (b .state) bs; work = 
 -- state bytes too few are refused by 6 before anything is written
 unfoldable pub start : List ℕ → List ℕ → List ℕ → Start
 start image bs w =
-    cond (leb 204 (length bs)) (stated (begun (opening image (length w)) w) bs) (record { number = 6; state = bs; work = w })
+    cond (leb stateSize (length bs)) (stated (begun (opening image (length w)) w) bs) (record { number = 6; state = bs; work = w })
 
 pub record Opens (image bs w : List ℕ) (r : ℕ) (bs′ w′ : List ℕ) : Type 0 where
   pub number : r ≡ start image bs w .number

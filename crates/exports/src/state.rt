@@ -8,9 +8,15 @@ ghost use Prim.Native.Nat.{_+_, _≤_};
 ghost use lib.ListN.{length};
 ghost use Rattle.bank.specs.Number.{u32At, le32};
 ghost use Rattle.bank.specs.Write.{over};
-ghost use Rattle.exports.specs.State.{kindNumber, three, stored, kindOf, entryAt, readState, loaded};
+ghost use Rattle.exports.specs.State.{entrySize, stateSize, kindNumber, three, stored, kindOf, entryAt, readState, loaded};
 
-pub(crate) const STATE: usize = 204;
+// n, active and tally.
+const HEAD: usize = 12;
+
+// Kind, total and usable.
+const ENTRY: usize = 12;
+
+pub(crate) const STATE: usize = HEAD + 16 * ENTRY;
 
 // A state, or zeros where the bytes hold none.
 pub(crate) struct Loaded {
@@ -61,7 +67,7 @@ fn u32_at(bytes: &[u8], at: usize) -> u32
 }
 
 fn entry_at(bytes: &[u8]) -> Entry
-    requires { ⌜ 12 ≤ length (now bytes) ⌝ }
+    requires { ⌜ entrySize ≤ length (now bytes) ⌝ }
     ensures { λ r. ⌜ r ≡ entryAt (now (bytes .entry)) ⌝ }
 {
     let kind = kind_of(u32_at(bytes, 0));
@@ -83,7 +89,7 @@ pub(crate) fn load(bytes: &[u8]) -> Loaded
     let mut banks = nvram::no_banks();
     let mut i: usize = 0;
     while i < 16 {
-        let at = 12 + 12 * i;
+        let at = HEAD + ENTRY * i;
         let rest = &bytes[at..];
         if 2 < u32_at(rest, 0) {
             return no_load();
@@ -118,7 +124,7 @@ fn put_three(bytes: &mut [u8], at: usize, a: u32, b: u32, c: u32)
 }
 
 pub(crate) fn store(state: Nvram, bytes: &mut [u8])
-    requires { ⌜ 204 ≤ length (now bytes) ⌝ }
+    requires { ⌜ stateSize ≤ length (now bytes) ⌝ }
     ensures { λ _. ⌜ now (bytes .exit) ≡ stored state (now (bytes .entry)) ⌝ }
 {
     put_three(bytes, 0, state.n, state.active, state.tally);
@@ -127,7 +133,7 @@ pub(crate) fn store(state: Nvram, bytes: &mut [u8])
     while i < 16 {
         let entry = banks[i];
         let kind = entry.kind;
-        let at = 12 + 12 * i;
+        let at = HEAD + ENTRY * i;
         put_three(bytes, at, kind_number(kind), entry.total, entry.usable);
         i += 1;
     }

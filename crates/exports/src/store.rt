@@ -10,10 +10,11 @@ use writer::Erase;
 ghost use mathlib.Core.Path.{_≡_};
 ghost use mathlib.Core.List.{[]};
 ghost use lib.ListN.{length};
-ghost use Rattle.nvram.specs.Call.{insert, remove, lookup, fetch, commit, wholeImage, number as numberOf};
+ghost use Rattle.nvram.specs.Edit.{plain, insert, remove};
+ghost use Rattle.nvram.specs.Call.{edit, lookup, fetch, commit, wholeImage, number as numberOf};
 ghost use Rattle.nvram.specs.Contract.{told};
 ghost use Rattle.writer.specs.Answer.{applied};
-ghost use Rattle.exports.specs.Store.{typeOf, fieldsOf, Calls, Finds, Hands, Writes, Opens};
+ghost use Rattle.exports.specs.Store.{typeOf, fieldsOf, Calls, Opens};
 
 fn var_type(typ: u32) -> VarType
     ensures { λ r. ⌜ r ≡ typeOf typ ⌝ }
@@ -48,7 +49,7 @@ pub extern "C" fn feqyondil_insert(
     value: &[u8],
     typ: u32,
 ) -> u32
-    ensures { λ r. ⌜ Calls (insert (now (key .entry)) (now (value .entry)) (typeOf typ)) (now (state .entry)) (now (work .entry)) r [] (now (state .exit)) (now (work .exit)) ⌝ }
+    ensures { λ r. ⌜ Calls (edit (insert plain (now (key .entry)) (now (value .entry)) (typeOf typ))) (now (state .entry)) (now (work .entry)) [] r [] (now (state .exit)) (now (work .exit)) [] ⌝ }
 {
     let loaded = load(state);
     if !loaded.ok {
@@ -64,7 +65,7 @@ pub extern "C" fn feqyondil_insert(
 // Deletes the values of a key and type in the active bank, which leaves the state as it was.
 #[no_mangle]
 pub extern "C" fn feqyondil_remove(state: &[u8], work: &mut [u8], key: &[u8], typ: u32) -> u32
-    ensures { λ r. ⌜ Calls (remove (now (key .entry)) (typeOf typ)) (now (state .entry)) (now (work .entry)) r [] (now (state .entry)) (now (work .exit)) ⌝ }
+    ensures { λ r. ⌜ Calls (edit (remove (now (key .entry)) (typeOf typ))) (now (state .entry)) (now (work .entry)) [] r [] (now (state .entry)) (now (work .exit)) [] ⌝ }
 {
     let loaded = load(state);
     if !loaded.ok {
@@ -79,7 +80,7 @@ fn number(found: Lookup) -> u32
     ensures { λ r. ⌜ r ≡ numberOf (told found) ⌝ }
 {
     match found {
-        Lookup::At(_, _) => 0,
+        Lookup::At(_) => 0,
         Lookup::Nothing => 0,
         Lookup::Refused(number) => number,
     }
@@ -89,7 +90,7 @@ fn fields(found: Lookup) -> [u64; 3]
     ensures { λ r. ⌜ r ≡ fieldsOf (told found) ⌝ }
 {
     match found {
-        Lookup::At(place, long) => [1, place as u64, long as u64],
+        Lookup::At(found) => [1, found.place as u64, found.long as u64],
         Lookup::Nothing => [0; 3],
         Lookup::Refused(_) => [0; 3],
     }
@@ -104,7 +105,7 @@ pub extern "C" fn feqyondil_lookup(
     typ: u32,
     out: &mut [u64; 3],
 ) -> u32
-    ensures { λ r. ⌜ Finds (lookup (now (key .entry)) (typeOf typ)) (now (state .entry)) (now (work .entry)) r (now (out .exit)) ⌝ }
+    ensures { λ r. ⌜ Calls (lookup (now (key .entry)) (typeOf typ)) (now (state .entry)) (now (work .entry)) [] r (now (out .exit)) (now (state .entry)) (now (work .entry)) [] ⌝ }
 {
     let loaded = load(state);
     if !loaded.ok {
@@ -126,7 +127,7 @@ pub extern "C" fn feqyondil_value(
     typ: u32,
     out: &mut [u8],
 ) -> usize
-    ensures { λ r. ⌜ Hands (fetch (now (key .entry)) (typeOf typ)) (now (state .entry)) (now (work .entry)) r (now (out .entry)) (now (out .exit)) ⌝ }
+    ensures { λ r. ⌜ Calls (fetch (now (key .entry)) (typeOf typ)) (now (state .entry)) (now (work .entry)) (now (out .entry)) r [] (now (state .entry)) (now (work .entry)) (now (out .exit)) ⌝ }
 {
     let loaded = load(state);
     if !loaded.ok {
@@ -158,7 +159,7 @@ pub extern "C" fn feqyondil_commit(
     output: &mut [u8],
     out: &mut [u64; 4],
 ) -> u32
-    ensures { λ r. ⌜ Writes (commit (length (now (output .entry)))) (now (state .entry)) (now (work .entry)) (now (output .entry)) r (now (out .exit)) (now (state .exit)) (now (work .exit)) (now (output .exit)) ⌝ }
+    ensures { λ r. ⌜ Calls (commit (length (now (output .entry)))) (now (state .entry)) (now (work .entry)) (now (output .entry)) r (now (out .exit)) (now (state .exit)) (now (work .exit)) (now (output .exit)) ⌝ }
 {
     let loaded = load(state);
     if !loaded.ok {
@@ -181,7 +182,7 @@ pub extern "C" fn feqyondil_whole_image(
     output: &mut [u8],
     out: &mut [u64; 1],
 ) -> u32
-    ensures { λ r. ⌜ Writes (wholeImage (length (now (output .entry)))) (now (state .entry)) (now (work .entry)) (now (output .entry)) r (now (out .exit)) (now (state .entry)) (now (work .entry)) (now (output .exit)) ⌝ }
+    ensures { λ r. ⌜ Calls (wholeImage (length (now (output .entry)))) (now (state .entry)) (now (work .entry)) (now (output .entry)) r (now (out .exit)) (now (state .entry)) (now (work .entry)) (now (output .exit)) ⌝ }
 {
     let loaded = load(state);
     if !loaded.ok {

@@ -3,7 +3,7 @@ use Prim.Native.Nat.{ℕ, _+_, _*_, _-_, _≤_, _<_}
 use mathlib.Core.Path.{_≡_, refl, sym, ap, ap₂, _∙_, subst}
 use mathlib.Core.List.{List, [], _++_, append-assoc}
 use mathlib.Core.Bool.{true}
-use mathlib.Core.Option.{Option, some}
+use mathlib.Core.Option.{some}
 use native.Mathlib.Omega.{arith}
 use lib.ListN.{length, getD, set, take, drop, replicate, length-append}
 use lib.Seq.{take-at, drop-at, set-getD}
@@ -22,11 +22,12 @@ use Rattle.nvram.specs.Part.{partSize, entry, entryOf, FineSlot, given}
 use Rattle.nvram.specs.Records.{Holds}
 use Rattle.nvram.specs.Book.{Book, FineBook, activeSlot}
 use Rattle.nvram.specs.Layout.{layTable, layState, layParts, layWork, view}
+use Rattle.nvram.specs.Ready.{activeEntry}
 use Rattle.nvram.specs.Call.{Call, refusal, stay, step}
-use Rattle.nvram.specs.Contract.{tallied, Does}
+use Rattle.nvram.specs.Contract.{Does}
 use Rattle.nvram.proofs.SlotLaws.{part-size}
 use Rattle.nvram.proofs.LayoutLaws.{lay-view, work-long, Split, split, table-at, fine-at}
-use Rattle.nvram.proofs.CallLaws.{some-of, does, refusal-quiet, kind-valid, OnActive, step-7}
+use Rattle.nvram.proofs.CallLaws.{some-of, does, refusal-tally, kind-valid, OnActive, step-7}
 
 -- what is known once soundness was tested
 pub record Sound (s : Nvram) (w : List ℕ) : Type 0 where
@@ -81,7 +82,7 @@ module _ {s : Nvram} {w : List ℕ} (g : Sound s w) where
   pub active-in : s .active < 16
   active-in = omega (arith, fine .inside, fine .high, active-is)
 
-  pub entry-is : getD (s .banks) (s .active) (entry Empty 0 0) ≡ entryOf (activeSlot book)
+  pub entry-is : activeEntry s ≡ entryOf (activeSlot book)
   entry-is =
       ap₂ (λ (t : List Entry) (i : ℕ). getD t i (entry Empty 0 0)) banks-are active-is ∙ table-at (book .slots) (book .active) in-slots
 
@@ -92,11 +93,11 @@ module _ {s : Nvram} {w : List ℕ} (g : Sound s w) where
       (record {
         answer = refl;
         out = refl;
-        state = state-is ∙ ap (λ (o : Option ℕ). layState book (tallied (s .tally) o)) (sym (refusal-quiet c k));
+        state = state-is ∙ ap (layState book) (sym (refusal-tally c k (s .tally)));
         work = work-is;
       })
 
-  pub does-7 : (c : Call) → OnActive c → (getD (s .banks) (s .active) (entry Empty 0 0) .kind ≡ Valid → ⊥) → Does c s w (refusal c 7) [] s w
+  pub does-7 : (c : Call) → OnActive c → (activeEntry s .kind ≡ Valid → ⊥) → Does c s w (refusal c 7) [] s w
   does-7 c u h = does-refuse c 7 (step-7 book c u (λ e. h (ap (λ (x : Entry). x .kind) entry-is ∙ e)))
 
   -- the work area reaches past each part
@@ -108,7 +109,7 @@ module _ {s : Nvram} {w : List ℕ} (g : Sound s w) where
   pub part-within : s .active * 131072 + 131072 ≤ length w
   part-within = place-within (s .active) (omega (arith, fine .inside, active-is, n-is))
 
-  module _ (v : getD (s .banks) (s .active) (entry Empty 0 0) .kind ≡ Valid) where
+  module _ (v : activeEntry s .kind ≡ Valid) where
     pub bank : Bank
     bank = kind-valid (activeSlot book) (sym (ap (λ (x : Entry). x .kind) entry-is) ∙ v) .0
 
@@ -119,11 +120,11 @@ module _ {s : Nvram} {w : List ℕ} (g : Sound s w) where
     pub bank-fine : FineBank bank × (total bank ≤ partSize)
     bank-fine = subst FineSlot bank-is (fine-at (book .slots) (book .active) (fine .slots-fine))
 
-    pub total-is : getD (s .banks) (s .active) (entry Empty 0 0) .total ≡ 24 + sizes (bank .records)
+    pub total-is : activeEntry s .total ≡ 24 + sizes (bank .records)
     unfolding entryOf total
     total-is = ap (λ (x : Entry). x .total) entry-is ∙ ap (λ (x : Slot). entryOf x .total) bank-is
 
-    pub usable-is : getD (s .banks) (s .active) (entry Empty 0 0) .usable ≡ bank .usable
+    pub usable-is : activeEntry s .usable ≡ bank .usable
     unfolding entryOf
     usable-is = ap (λ (x : Entry). x .usable) entry-is ∙ ap (λ (x : Slot). entryOf x .usable) bank-is
 
@@ -170,10 +171,10 @@ module _ {s : Nvram} {w : List ℕ} (g : Sound s w) where
         ∙ laid-out bank refl (bank-fine .0 .records-fine)
 
     -- the records stand where the code looks for them
-    pub holds : Holds w (s .active * 131072 + 24) (s .active * 131072 + getD (s .banks) (s .active) (entry Empty 0 0) .total) (bank .records)
+    pub holds : Holds w (s .active * 131072 + 24) (s .active * 131072 + activeEntry s .total) (bank .records)
     holds =
         let f = bank-fine .0 .records-fine in
-        let t = getD (s .banks) (s .active) (entry Empty 0 0) .total in
+        let t = activeEntry s .total in
         let a = s .active * 131072 in
         let l : length (recordsBytes (bank .records)) ≡ sizes (bank .records) = length-records (bank .records) f in
         record {

@@ -24,20 +24,20 @@ abbrev put : ℕ → List ℕ → List ℕ → List ℕ
 put at w y = take at w ++ (y ++ drop (length w - at) (drop at w))
 
 -- the header that was serialized
-pub fresh-bytes : (key value : List ℕ) (typ : VarType) (crc : ℕ) → crc ≡ crc32Of value → (x : VarHeader)
-    → x ≡ freshHeader typ (length key + 1) (length value) crc
+pub fresh-bytes : (attributes : ℕ) (key value : List ℕ) (typ : VarType) (crc : ℕ) → crc ≡ crc32Of value → (x : VarHeader)
+    → x ≡ freshHeader typ attributes (length key + 1) (length value) crc
     → (h : List ℕ)
     → h ≡ varHeaderBytes (x .state) (x .attrs) (x .«name_size») (x .«data_size») (x .guid) (x .crc)
-    → h ≡ varHeaderBytes 0x7F 0 (length key + 1) (length value) (guidOf typ) (crc32Of value)
+    → h ≡ varHeaderBytes 0x7F attributes (length key + 1) (length value) (guidOf typ) (crc32Of value)
 unfolding freshHeader
-fresh-bytes key value typ crc c x e h q =
+fresh-bytes attributes key value typ crc c x e h q =
     q ∙ ap (λ (y : VarHeader). varHeaderBytes (y .state) (y .attrs) (y .«name_size») (y .«data_size») (y .guid) (y .crc)) e
-    ∙ ap (varHeaderBytes 0x7F 0 (length key + 1) (length value) (guidOf typ)) c
+    ∙ ap (varHeaderBytes 0x7F attributes (length key + 1) (length value) (guidOf typ)) c
 
-module _ (at : ℕ) (key value w : List ℕ) (typ : VarType) (room : at + (37 + length key + length value) ≤ length w) (h : List ℕ)
-    (is : h ≡ varHeaderBytes 0x7F 0 (length key + 1) (length value) (guidOf typ) (crc32Of value)) where
+module _ (at attributes : ℕ) (key value w : List ℕ) (typ : VarType) (room : at + (37 + length key + length value) ≤ length w) (h : List ℕ)
+    (is : h ≡ varHeaderBytes 0x7F attributes (length key + 1) (length value) (guidOf typ) (crc32Of value)) where
   header-long : length h ≡ 36
-  header-long = ap length is ∙ length-var-header 0x7F 0 (length key + 1) (length value) (crc32Of value) (guidOf typ) (guid-length typ)
+  header-long = ap length is ∙ length-var-header 0x7F attributes (length key + 1) (length value) (crc32Of value) (guidOf typ) (guid-length typ)
 
   module _ (a : List ℕ) (p : a ≡ onto h (lent w at)) where
     abbrev one : List ℕ
@@ -76,7 +76,7 @@ module _ (at : ℕ) (key value w : List ℕ) (typ : VarType) (room : at + (37 + 
         abbrev four : List ℕ
         four = put (at + 36 + length key + 1) three d
 
-        pub four-is : four ≡ over at (recordBytes (fresh key value typ)) w
+        pub four-is : four ≡ over at (recordBytes (fresh attributes key value typ)) w
         unfolding recordBytes
         four-is =
             let x = (h ++ key) ++ (0 ∷ []) in

@@ -12,8 +12,9 @@ use Rattle.nvram.specs.declared.state.Nvram.{Nvram}
 use Rattle.nvram.specs.Part.{entryOf, given}
 use Rattle.nvram.specs.Book.{Book, activeSlot}
 use Rattle.nvram.specs.Layout.{layState, layWork, view}
-use Rattle.nvram.specs.Call.{Call, insert, remove, lookup, fetch, commit, wholeImage, Answer, erase, refusal, Outcome, stay, insertIn, removeIn, lookupIn, fetchIn, step}
-use Rattle.nvram.specs.Contract.{tallied, onBook, call, Does}
+use Rattle.nvram.specs.Call.{Call, edit, lookup, fetch, commit, wholeImage, Answer, refusal, Outcome, stay, bySlot, step}
+use Rattle.nvram.specs.Tally.{Tally, tallied}
+use Rattle.nvram.specs.Contract.{onBook, call, Does}
 
 pub some-of : {A : Type 0} (o : Option A) → given o ≡ true → (x : A) × (o ≡ some x)
 some-of none e = let z : _≡_ {A = ℕ} 0 1 = cc in absurd (omega arith)
@@ -35,30 +36,29 @@ does-6 c s w e =
       work = sym (ap (λ (o : Option Book). onBook o c s w .work) q);
     }
 
--- a refusal in the number alone requests nothing
-pub refusal-quiet : (c : Call) (k : ℕ) → erase (refusal c k) ≡ none
-refusal-quiet (insert key value typ) k = refl
-refusal-quiet (remove key typ) k = refl
-refusal-quiet (lookup key typ) k = refl
-refusal-quiet (fetch key typ) k = refl
-refusal-quiet (commit room) k = refl
-refusal-quiet (wholeImage room) k = refl
+-- a refusal in the number alone is not counted
+pub refusal-tally : (c : Call) (k : ℕ) (t : Tally) → tallied c (refusal c k) t ≡ t
+refusal-tally (edit e) k t = refl
+refusal-tally (lookup key typ) k t = refl
+refusal-tally (fetch key typ) k t = refl
+refusal-tally (commit room) k t = refl
+refusal-tally (wholeImage room) k t = refl
 
 -- what a call leaves, by the book's outcome
-pub record Leaves (o : Outcome) (s : Nvram) (w : List ℕ) (a : Answer) (x : List ℕ) (s′ : Nvram) (w′ : List ℕ) : Type 0 where
+pub record Leaves (c : Call) (o : Outcome) (s : Nvram) (w : List ℕ) (a : Answer) (x : List ℕ) (s′ : Nvram) (w′ : List ℕ) : Type 0 where
   pub answer : a ≡ o .answer
   pub out : x ≡ o .out
-  pub state : s′ ≡ layState (o .laid) (tallied (s .tally) (erase (o .answer)))
+  pub state : s′ ≡ layState (o .laid) (tallied c (o .answer) (s .tally))
   pub work : w′ ≡ layWork (o .laid) w
 
 pub does : (c : Call) (s : Nvram) (w : List ℕ) (b : Book) (o : Outcome) (a : Answer) (x : List ℕ) (s′ : Nvram) (w′ : List ℕ)
-    → view s w ≡ some b → step b c ≡ o → Leaves o s w a x s′ w′ → Does c s w a x s′ w′
+    → view s w ≡ some b → step b c ≡ o → Leaves c o s w a x s′ w′ → Does c s w a x s′ w′
 unfolding call onBook
 does c s w b o a x s′ w′ v q l =
     record {
       answer = l .answer ∙ sym (ap (λ (p : Option Book). onBook p c s w .answer) v ∙ ap (λ (p : Outcome). p .answer) q);
       out = l .out ∙ sym (ap (λ (p : Option Book). onBook p c s w .out) v ∙ ap (λ (p : Outcome). p .out) q);
-      state = l .state ∙ sym (ap (λ (p : Option Book). onBook p c s w .state) v ∙ ap (λ (p : Outcome). layState (p .laid) (tallied (s .tally) (erase (p .answer)))) q);
+      state = l .state ∙ sym (ap (λ (p : Option Book). onBook p c s w .state) v ∙ ap (λ (p : Outcome). layState (p .laid) (tallied c (p .answer) (s .tally))) q);
       work = l .work ∙ sym (ap (λ (p : Option Book). onBook p c s w .work) v ∙ ap (λ (p : Outcome). layWork (p .laid) w) q);
     }
 
@@ -71,32 +71,31 @@ kind-valid invalid e = let z : _≡_ {A = ℕ} 0 1 = cc in absurd (omega arith)
 
 -- the calls that ask for the active bank right after 6
 abbrev pub OnActive : Call → Type 0
-OnActive (insert key value typ) = Unit {0}
-OnActive (remove key typ) = Unit {0}
+OnActive (edit e) = Unit {0}
 OnActive (lookup key typ) = Unit {0}
 OnActive (fetch key typ) = Unit {0}
 OnActive (commit room) = ⊥
 OnActive (wholeImage room) = ⊥
 
 -- refused by 7: the active slot isn't Valid
-seven : (b : Book) (c : Call) (x : Slot) → OnActive c → activeSlot b ≡ x → (entryOf x .kind ≡ Valid → ⊥) → step b c ≡ stay b (refusal c 7)
-unfolding step insertIn removeIn lookupIn fetchIn entryOf
-seven b c (valid k) u e h = absurd (h refl)
-seven b (insert key value typ) empty u e h = ap (insertIn b key value typ) e
-seven b (insert key value typ) invalid u e h = ap (insertIn b key value typ) e
-seven b (remove key typ) empty u e h = ap (removeIn b key typ) e
-seven b (remove key typ) invalid u e h = ap (removeIn b key typ) e
-seven b (lookup key typ) empty u e h = ap (lookupIn b key typ) e
-seven b (lookup key typ) invalid u e h = ap (lookupIn b key typ) e
-seven b (fetch key typ) empty u e h = ap (fetchIn b key typ) e
-seven b (fetch key typ) invalid u e h = ap (fetchIn b key typ) e
-seven b (commit room) empty u e h = absurd u
-seven b (commit room) invalid u e h = absurd u
-seven b (wholeImage room) empty u e h = absurd u
-seven b (wholeImage room) invalid u e h = absurd u
+pub by-7 : (b : Book) (c : Call) (f : Bank → Outcome) (x : Slot) → (entryOf x .kind ≡ Valid → ⊥) → bySlot b c f x ≡ stay b (refusal c 7)
+unfolding bySlot entryOf
+by-7 b c f empty h = refl
+by-7 b c f invalid h = refl
+by-7 b c f (valid k) h = absurd (h refl)
 
 pub step-7 : (b : Book) (c : Call) → OnActive c → (entryOf (activeSlot b) .kind ≡ Valid → ⊥) → step b c ≡ stay b (refusal c 7)
-step-7 b c u h = seven b c (activeSlot b) u refl h
+unfolding step
+step-7 b (edit e) u h = by-7 b (edit e) _ (activeSlot b) h
+step-7 b (lookup key typ) u h = by-7 b (lookup key typ) _ (activeSlot b) h
+step-7 b (fetch key typ) u h = by-7 b (fetch key typ) _ (activeSlot b) h
+step-7 b (commit room) u h = absurd u
+step-7 b (wholeImage room) u h = absurd u
+
+-- what is done to the bank of the active slot
+pub by-valid : (b : Book) (c : Call) (f : Bank → Outcome) (k : Bank) → activeSlot b ≡ valid k → bySlot b c f (activeSlot b) ≡ f k
+unfolding bySlot
+by-valid b c f k e = ap (bySlot b c f) e
 
 pub empty-valid : (k : Kind) → k ≡ Empty → k ≡ Valid → ⊥
 empty-valid k p q = let z : _≡_ {A = ℕ} 0 1 = cc in omega arith

@@ -1,11 +1,14 @@
 -- Inserts and removes on a sound state and work area, in the numbers that the code has.
-use Prim.Native.Nat.{ℕ, _+_, _*_, _-_, _≤_, _<_}
+use Prim.Native.Nat.{ℕ, zero, suc, _+_, _*_, _-_, _≤_}
 use mathlib.Core.Path.{_≡_, refl, sym, ap, ap₂, _∙_}
 use mathlib.Core.List.{List, [], _∷_, _++_, append-assoc, append-nil}
+use mathlib.Core.Logic.{_≢_}
+use mathlib.Core.Bool.{cond}
 use native.Mathlib.Omega.{arith}
+use lib.Dec.{leb}
 use lib.ListN.{length, getD, set, replicate, length-append, length-replicate, replicate-append-replicate}
 use lib.Seq.{set-getD}
-use borrow.Author.Tests.{le-leb, lt-leb}
+use borrow.Author.Tests.{le-leb}
 use Rattle.crc32.specs.Crc32.{Bytes}
 use Rattle.bank.specs.declared.variable.VarType.{VarType}
 use Rattle.bank.specs.Record.{Record, sizeOf, sizes, recordBytes, recordsBytes}
@@ -17,23 +20,24 @@ use Rattle.bank.proofs.LengthLaws.{length-record, length-records}
 use Rattle.nvram.specs.declared.state.Kind.the-variants.{Empty, Valid}
 use Rattle.nvram.specs.declared.state.Entry.{Entry}
 use Rattle.nvram.specs.declared.state.Nvram.{Nvram}
-use Rattle.nvram.specs.Edit.{removed, inserted, fresh}
+use Rattle.nvram.specs.Edit.{Manner, Edit, insert, remove, removed, attributesOf, fresh, editedBy, grows, refusedEdit}
 use Rattle.nvram.specs.Part.{partSize, entry, entryOf}
 use Rattle.nvram.specs.Book.{withActive, withRecords}
 use Rattle.nvram.specs.Layout.{layTable, layState, setEntry, layWork}
-use Rattle.nvram.specs.Call.{insert, remove, edited, stay, change, insertIn, removeIn, step}
+use Rattle.nvram.specs.Ready.{activeEntry}
+use Rattle.nvram.specs.Call.{edit, edited, change, editAs, editBank, step}
 use Rattle.nvram.specs.Contract.{Does}
-use Rattle.nvram.proofs.RecordLists.{fine-removed, sizes-removed, fine-fresh, fine-append, records-append, sizes-append}
+use Rattle.nvram.proofs.RecordLists.{fine-removed, sizes-removed, fine-fresh, attributes-fit, fine-append, records-append, sizes-append}
 use Rattle.nvram.proofs.SlotLaws.{part-size}
 use Rattle.nvram.proofs.LayoutLaws.{table-set}
 use Rattle.nvram.proofs.PutLaws.{over-mid, length-over, over-over}
-use Rattle.nvram.proofs.CallLaws.{does}
-use Rattle.nvram.proofs.ActiveLaws.{Sound, book, viewed, state-is, work-is, active-is, n-is, banks-are, in-slots, part-within, bank, bank-is, bank-fine, total-is, usable-is, total-high, front, rest, laidWith, front-length, laid-out, work-split}
+use Rattle.nvram.proofs.CallLaws.{does, by-valid}
+use Rattle.nvram.proofs.ActiveLaws.{Sound, book, viewed, active-is, n-is, banks-are, in-slots, does-refuse, part-within, bank, bank-is, bank-fine, total-is, usable-is, total-high, front, rest, laidWith, front-length, laid-out, work-split}
 
-module _ {s : Nvram} {w : List ℕ} (g : Sound s w) (v : getD (s .banks) (s .active) (entry Empty 0 0) .kind ≡ Valid) where
+module _ {s : Nvram} {w : List ℕ} (g : Sound s w) (v : activeEntry s .kind ≡ Valid) where
   -- the active entry, and where its records begin
   abbrev pub now : Entry
-  now = getD (s .banks) (s .active) (entry Empty 0 0)
+  now = activeEntry s
 
   abbrev pub from : ℕ
   from = s .active * 131072 + 24
@@ -51,6 +55,29 @@ module _ {s : Nvram} {w : List ℕ} (g : Sound s w) (v : getD (s .banks) (s .act
       let e : set (s .banks) (s .active) (entry Valid t u) ≡ layTable (set (book g .slots) (book g .active) (valid k)) =
       (λ i. set (banks-are g i) (active-is g i) (entry Valid (p i) (q i))) ∙ sym (table-set (book g .slots) (book g .active) (valid k) (in-slots g)) in
       λ i. record { n = n-is g i; active = active-is g i; tally = s .tally; banks = e i }
+
+  -- an edit, by the number that refuses it
+  module _ (e : Edit) where
+    edit-step : (n : ℕ) → n ≡ refusedEdit e (bank g v) → step (book g) (edit e) ≡ editAs (book g) e (bank g v) n
+    unfolding step editBank
+    edit-step n q =
+        by-valid (book g) (edit e) (editBank (book g) e) (bank g v) (bank-is g v) ∙ ap (editAs (book g) e (bank g v)) (sym q)
+
+    pub does-refused : (n : ℕ) → n ≡ refusedEdit e (bank g v) → n ≢ 0 → Does (edit e) s w (edited n) [] s w
+    unfolding editAs
+    does-refused zero q h = absurd (h refl)
+    does-refused (suc n) q h = does-refuse g (edit e) (suc n) (edit-step (suc n) q)
+
+    abbrev after : Bank
+    after = withRecords (bank g v) (editedBy e rs)
+
+    does-edit : 0 ≡ refusedEdit e (bank g v) → (s′ : Nvram) (w′ : List ℕ) → s′ ≡ layState (withActive (book g) after) (s .tally)
+        → w′ ≡ layWork (withActive (book g) after) w
+        → Does (edit e) s w (edited 0) [] s′ w′
+    unfolding editAs
+    does-edit q s′ w′ a b =
+        does (edit e) s w (book g) (change (book g) after) (edited 0) [] s′ w′ (viewed g) (edit-step 0 q)
+        (record { answer = refl; out = refl; state = a; work = b })
 
   module _ (key : List ℕ) (typ : VarType) where
     abbrev less : List Record
@@ -79,33 +106,29 @@ module _ {s : Nvram} {w : List ℕ} (g : Sound s w) (v : getD (s .banks) (s .act
         (λ i. record { n = s .n; active = s .active; tally = s .tally; banks = q i })
         ∙ state-with (withRecords (bank g v) less) (now .total) (now .usable) (total-is g v ∙ ap (λ (n : ℕ). 24 + n) (sym (sizes-removed key typ rs))) (usable-is g v)
 
-    pub does-remove : (w′ : List ℕ) → w′ ≡ over from (recordsBytes less) w → Does (remove key typ) s w (edited 0) [] s w′
-    unfolding step removeIn
-    does-remove w′ e =
-        does (remove key typ) s w (book g) (change (book g) (withRecords (bank g v) less)) (edited 0) [] s w′ (viewed g)
-        (ap (removeIn (book g) key typ) (bank-is g v))
-        (record { answer = refl; out = refl; state = state-less; work = e ∙ work-less })
+    pub does-remove : (w′ : List ℕ) → w′ ≡ over from (recordsBytes less) w → Does (edit (remove key typ)) s w (edited 0) [] s w′
+    unfolding editedBy refusedEdit
+    does-remove w′ e = does-edit (remove key typ) refl s w′ state-less (e ∙ work-less)
 
-    module _ (value : List ℕ) where
+    module _ (m : Manner) (value : List ℕ) where
       abbrev new : Record
-      new = fresh key value typ
+      new = fresh (attributesOf m) key value typ
 
       abbrev more : List Record
-      more = inserted key value typ rs
+      more = less ++ (new ∷ [])
 
-      pub does-8 : 131072 < now .total + sizeOf new → Does (insert key value typ) s w (edited 8) [] s w
-      unfolding step insertIn total
-      does-8 h =
-          let m : partSize < 24 + sizes rs + sizeOf new = omega (arith, total-is g v, part-size) in
-          let q : insertIn (book g) key value typ (valid (bank g v)) ≡ stay (book g) (edited 8) = rw (lt-leb _ _ m) in
-          does (insert key value typ) s w (book g) (stay (book g) (edited 8)) (edited 8) [] s w (viewed g)
-          (ap (insertIn (book g) key value typ) (bank-is g v) ∙ q)
-          (record { answer = refl; out = refl; state = state-is g; work = work-is g })
+      -- what the code tests is whether the record has room
+      refused-by : refusedEdit (insert m key value typ) (bank g v) ≡ cond (leb (now .total + sizeOf new) 131072) 0 8
+      unfolding refusedEdit grows total
+      refused-by = ap₂ (λ (a b : ℕ). cond (leb (a + sizeOf new) b) 0 8) (sym (total-is g v)) part-size
+
+      pub does-8 : (n : ℕ) → n ≡ cond (leb (now .total + sizeOf new) 131072) 0 8 → n ≢ 0 → Does (edit (insert m key value typ)) s w (edited n) [] s w
+      does-8 n q h = does-refused (insert m key value typ) n (q ∙ sym refused-by) h
 
       module _ (kb : Bytes key) (vb : Bytes value) (room : now .total + sizeOf new ≤ 131072) where
         new-fine : FineRecord new
         unfolding sizeOf
-        new-fine = let r = room in fine-fresh key value typ kb vb (omega arith) (omega arith)
+        new-fine = let r = room in fine-fresh (attributesOf m) key value typ (attributes-fit m) kb vb (omega arith) (omega arith)
 
         more-fine : FineRecords more
         more-fine = fine-append less (new ∷ []) less-fine (new-fine, tt)
@@ -161,19 +184,15 @@ module _ {s : Nvram} {w : List ℕ} (g : Sound s w) (v : getD (s .banks) (s .act
             → w₂ ≡ over (s .active * 131072 + now .total) (recordBytes new) w₁
             → t ≡ now .total + sizeOf new
             → s′ ≡ setEntry s (s .active) (entry Valid t (now .usable))
-            → Does (insert key value typ) s w (edited 0) [] s′ w₂
-        unfolding step insertIn total
+            → Does (edit (insert m key value typ)) s w (edited 0) [] s′ w₂
+        unfolding editedBy total
         does-insert w₁ w₂ t s′ p q r z =
             let e : s .active * 131072 + now .total ≡ from + length (recordsBytes less) = omega (arith, total-is g v, less-length) in
             let h : from + length (recordsBytes less) + length (recordBytes new) ≤ length w =
             omega (arith, part-within g, room, total-is g v, less-length, new-length) in
-            let d : insertIn (book g) key value typ (valid (bank g v)) ≡ change (book g) (withRecords (bank g v) more) = rw (le-leb _ _ fits) in
-            does (insert key value typ) s w (book g) (change (book g) (withRecords (bank g v) more)) (edited 0) []
-            s′ w₂ (viewed g)
-            (ap (insertIn (book g) key value typ) (bank-is g v) ∙ d)
-            (record {
-              answer = refl;
-              out = refl;
-              state = z ∙ state-with (withRecords (bank g v) more) t (now .usable) (r ∙ omega (arith, total-is g v, more-sizes)) (usable-is g v);
-              work = q ∙ ap₂ (λ (i : ℕ) (x : List ℕ). over i (recordBytes new) x) e p ∙ over-over from (from + length (recordsBytes less)) (recordsBytes less) (recordBytes new) w refl h ∙ work-more;
-            })
+            let accepted : 0 ≡ refusedEdit (insert m key value typ) (bank g v) = sym (refused-by ∙ rw (le-leb _ _ room)) in
+            does-edit (insert m key value typ) accepted s′ w₂
+            (z ∙ state-with (withRecords (bank g v) more) t (now .usable) (r ∙ omega (arith, total-is g v, more-sizes)) (usable-is g v))
+            (q ∙ ap₂ (λ (i : ℕ) (x : List ℕ). over i (recordBytes new) x) e p
+            ∙ over-over from (from + length (recordsBytes less)) (recordsBytes less) (recordBytes new) w refl h
+            ∙ work-more)

@@ -10,11 +10,11 @@ use borrow.Author.Tests.{eq-eqb, ne-eqb}
 use lib.ListN.{length, getD, take, drop}
 use Rattle.buffers.specs.Bytes.{eqBytes}
 use Rattle.buffers.proofs.Walk.{tail}
-use Rattle.bank.specs.Record.{Record, recordOf, sizeOf, sizes, live, systemGuid, commonGuid}
-use Rattle.bank.specs.Figures.{select, liveOf}
+use Rattle.bank.specs.Record.{Record, recordOf, sizeOf, live, systemGuid, commonGuid}
+use Rattle.bank.specs.Figures.{liveOf}
 use Rattle.nvram.specs.declared.figures.Figures.{Figures}
 use Rattle.nvram.specs.Part.{prepend, viewRecords}
-use Rattle.nvram.specs.Figures.{figuresOf, noFigures, counted}
+use Rattle.nvram.specs.Figures.{noFigures, figuresBy, plus, figuresOf}
 use Rattle.nvram.specs.Checked.{unsound, checked, recordsFigures}
 use Rattle.nvram.proofs.CheckedLaws.{checked-none, checked-same}
 use Rattle.nvram.proofs.RecordSteps.{lent, Further}
@@ -29,54 +29,44 @@ module _ (f : Figures) (s : List ℕ) (n : ℕ) where
       → (a b : ℕ)
       → a ≡ cond p n 0
       → b ≡ cond q n 0
-      → record { system = f .system + a; common = f .common + b } ≡ counted f (recordOf s) n
-  unfolding counted liveOf live recordOf
+      → record { system = f .system + a; common = f .common + b } ≡ plus f (figuresBy (recordOf s) n)
+  unfolding plus figuresBy liveOf live recordOf
   count-live t p q e g a b h k = rw (eq-eqb _ _ t, h, k, e, g)
 
-  pub count-dead : getD s 2 0 ≢ 0x7F → f ≡ counted f (recordOf s) n
-  unfolding counted liveOf live recordOf
+  pub count-dead : getD s 2 0 ≢ 0x7F → f ≡ plus f (figuresBy (recordOf s) n)
+  unfolding plus figuresBy liveOf live recordOf
   count-dead t = rw (ne-eqb _ _ t) (figures-are (omega arith) (omega arith))
 
--- f, and the figures of some records on top of it
-unfoldable pub plus : Figures → List Record → Figures
-plus f rs = record { system = f .system + figuresOf rs .system; common = f .common + figuresOf rs .common }
+plus-assoc : (f g h : Figures) → plus (plus f g) h ≡ plus f (plus g h)
+unfolding plus
+plus-assoc f g h = figures-are (omega arith) (omega arith)
 
-sizes-select : (p : Record → Bool) (r : Record) (rs : List Record)
-    → sizes (select p (r ∷ rs)) ≡ cond (p r) (sizeOf r) 0 + sizes (select p rs)
-unfolding select sizes
-sizes-select p r rs = by (p r)
-  where
-    by : (t : Bool) → sizes (cond t (r ∷ select p rs) (select p rs)) ≡ cond t (sizeOf r) 0 + sizes (select p rs)
-    by true = refl
-    by false = omega arith
-
-plus-more : (f : Figures) (r : Record) (rs : List Record) → plus (counted f r (sizeOf r)) rs ≡ plus f (r ∷ rs)
-unfolding plus figuresOf counted
-plus-more f r rs =
-    figures-are (omega (arith, sizes-select (liveOf systemGuid) r rs)) (omega (arith, sizes-select (liveOf commonGuid) r rs))
-
-plus-none : (f : Figures) → plus f [] ≡ f
-unfolding plus figuresOf select sizes
+plus-none : (f : Figures) → plus f noFigures ≡ f
+unfolding plus
 plus-none f = figures-are (omega arith) (omega arith)
 
--- the same, if they are to be counted
+none-plus : (f : Figures) → plus noFigures f ≡ f
+unfolding plus
+none-plus f = figures-are (omega arith) (omega arith)
+
+-- the figures of some records on top of f, if they are to be counted
 unfoldable pub onTop : Bool → Figures → List Record → Figures
-onTop counting f rs = cond counting (plus f rs) f
+onTop counting f rs = cond counting (plus f (figuresOf rs)) f
 
 top-more : (counting : Bool) (f : Figures) (r : Record) (rs : List Record)
-    → onTop counting (cond counting (counted f r (sizeOf r)) f) rs ≡ onTop counting f (r ∷ rs)
-unfolding onTop
-top-more true f r rs = plus-more f r rs
+    → onTop counting (cond counting (plus f (figuresBy r (sizeOf r))) f) rs ≡ onTop counting f (r ∷ rs)
+unfolding onTop figuresOf
+top-more true f r rs = plus-assoc f (figuresBy r (sizeOf r)) (figuresOf rs)
 top-more false f r rs = refl
 
 top-none : (counting : Bool) (f : Figures) → onTop counting f [] ≡ f
-unfolding onTop
+unfolding onTop figuresOf
 top-none true f = plus-none f
 top-none false f = refl
 
 top-first : (counting : Bool) (rs : List Record) → onTop counting noFigures rs ≡ recordsFigures counting rs
-unfolding onTop recordsFigures plus
-top-first true rs = figures-are (omega arith) (omega arith)
+unfolding onTop recordsFigures
+top-first true rs = none-plus (figuresOf rs)
 top-first false rs = refl
 
 -- neither sum is over a place
@@ -88,8 +78,8 @@ cond-le true n = omega arith
 cond-le false n = omega arith
 
 counted-below : (counting : Bool) (f : Figures) (r : Record) (n at end : ℕ) → at + n ≡ end → Below f at
-    → Below (cond counting (counted f r n) f) end
-unfolding counted
+    → Below (cond counting (plus f (figuresBy r n)) f) end
+unfolding plus figuresBy
 counted-below true f r n at end e b =
     (omega (arith, e, b .0, cond-le (liveOf systemGuid r) n), omega (arith, e, b .1, cond-le (liveOf commonGuid r) n))
 counted-below false f r n at end e b = (omega (arith, e, b .0), omega (arith, e, b .1))
@@ -113,15 +103,15 @@ begin counting s f e =
     record { is = checked-same (top-first counting) (viewRecords s); small = (omega arith, omega arith); within = omega arith }
 
 module _ {counting : Bool} {s : List ℕ} {at : ℕ} {f : Figures} (k : Walked counting s at f) where
-  pub turn : {end : ℕ} → Further s at end → (g : Figures) → g ≡ cond counting (counted f (recordOf (lent s at)) (end - at)) f → Walked counting s end g
+  pub turn : {end : ℕ} → Further s at end → (g : Figures) → g ≡ cond counting (plus f (figuresBy (recordOf (lent s at)) (end - at))) f → Walked counting s end g
   turn {end} m g e =
       let r = recordOf (drop at s) in
-      let p : g ≡ cond counting (counted f r (end - at)) f = e ∙ ap (λ (l : List ℕ). cond counting (counted f (recordOf l) (end - at)) f) (tail s at) in
-      let q : g ≡ cond counting (counted f r (sizeOf r)) f = p ∙ ap (λ (n : ℕ). cond counting (counted f r n) f) (m .size) in
+      let p : g ≡ cond counting (plus f (figuresBy r (end - at))) f = e ∙ ap (λ (l : List ℕ). cond counting (plus f (figuresBy (recordOf l) (end - at))) f) (tail s at) in
+      let q : g ≡ cond counting (plus f (figuresBy r (sizeOf r))) f = p ∙ ap (λ (n : ℕ). cond counting (plus f (figuresBy r n)) f) (m .size) in
       let z : at + (end - at) ≡ end = omega (arith, m .more) in
       record {
         is = ap (λ (x : Figures). checked (onTop counting x) (viewRecords (drop end s))) q
-            ∙ checked-more (onTop counting (cond counting (counted f r (sizeOf r)) f)) (onTop counting f) r (top-more counting f r) (viewRecords (drop end s))
+            ∙ checked-more (onTop counting (cond counting (plus f (figuresBy r (sizeOf r))) f)) (onTop counting f) r (top-more counting f r) (viewRecords (drop end s))
             ∙ ap (checked (onTop counting f)) (sym (m .is))
             ∙ k .is;
         small = subst (λ (x : Figures). Below x end) (sym p) (counted-below counting f r (end - at) at end z (k .small));

@@ -19,5 +19,6 @@ pub mod EditLaws
 pub mod LookupLaws
 pub mod StandingLaws
 pub mod JudgeLaws
+pub mod Did
 pub mod StepLaws
 pub mod RefusalLaws

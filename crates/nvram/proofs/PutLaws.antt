@@ -4,7 +4,7 @@ use mathlib.Core.Path.{_≡_, sym, ap, ap₂, _∙_}
 use mathlib.Core.List.{List, [], _∷_, _++_, append-assoc, append-nil}
 use native.Mathlib.Omega.{arith}
 use lib.ListN.{length, set, take, drop, take-append-drop, drop-of-length-le, length-append, length-drop}
-use lib.Seq.{take-at, drop-at, drop-drop, set-split, length-take-le}
+use lib.Seq.{take-at, drop-at, take-append-add, take-append-le, drop-append-le, drop-drop, set-split, length-take-le}
 use Rattle.buffers.specs.Bytes.{onto}
 use Rattle.buffers.proofs.Laws.{onto-fits}
 use Rattle.buffers.proofs.Walk.{tail}
@@ -47,6 +47,18 @@ over-mid p x y q at l e =
     let n : at + length y ≡ at + length x = omega arith in
     ap₂ (λ (a b : List ℕ). a ++ (y ++ b)) (take-at p (x ++ q) at l)
     (ap (λ (i : ℕ). drop i (p ++ (x ++ q))) n ∙ past-drop p (x ++ q) at (length x) l ∙ drop-at x q (length x) (omega arith))
+
+-- bytes put over a middle part
+pub over-inside : (p m q : List ℕ) (at j : ℕ) (x : List ℕ) → length p ≡ at → j + length x ≤ length m
+    → over (at + j) x (p ++ (m ++ q)) ≡ p ++ (over j x m ++ q)
+unfolding over
+over-inside p m q at j x l h =
+    let a : take (at + j) (p ++ (m ++ q)) ≡ p ++ take j m =
+    rw l at (take-append-add p (m ++ q) j) ∙ ap (λ (y : List ℕ). p ++ y) (take-append-le j m q (omega arith)) in
+    let n : at + j + length x ≡ at + (j + length x) = omega arith in
+    let b : drop (at + j + length x) (p ++ (m ++ q)) ≡ drop (j + length x) m ++ q =
+    ap (λ (i : ℕ). drop i (p ++ (m ++ q))) n ∙ past-drop p (m ++ q) at (j + length x) l ∙ drop-append-le (j + length x) m q h in
+    rw (a, b) (simp append-assoc)
 
 -- a run behind another
 pub over-over : (at p : ℕ) (x y w : List ℕ) → p ≡ at + length x → p + length y ≤ length w → over p y (over at x w) ≡ over at (x ++ y) w

@@ -1,12 +1,10 @@
 -- What `ready` answers, and what follows from each answer.
-use Prim.Native.Nat.{ℕ, _+_, _*_, _≤_}
+use Prim.Native.Nat.{ℕ, _+_, _*_}
 use mathlib.Core.Path.{_≡_, refl, sym, _∙_, subst}
 use mathlib.Core.List.{List, []}
 use mathlib.Core.Bool.{Bool, true, false, cond}
 use native.Mathlib.Omega.{arith}
-use lib.Dec.{leb}
 use lib.ListN.{length}
-use borrow.Author.Tests.{le-leb, leb-true, leb-false}
 use Rattle.crc32.specs.Crc32.{Bytes}
 use Rattle.nvram.specs.declared.ready.Ready.{Ready}
 use Rattle.nvram.specs.declared.ready.Ready.the-variants.{Refused, Records}
@@ -65,12 +63,3 @@ module _ {s : Nvram} {w : List ℕ} (bytes : Bytes w) (long : length (s .banks) 
       go true Empty a b p = let z : _≡_ {A = ℕ} 0 1 = cc in absurd (omega arith)
       go true Invalid a b p = let z : _≡_ {A = ℕ} 0 1 = cc in absurd (omega arith)
       go true Valid a b p = record { sound = known a; valid = b; from-is = cc; to-is = cc }
-
--- two tests of one fact
-pub same-test : (a b c d : ℕ) → (a ≤ b → c ≤ d) → (c ≤ d → a ≤ b) → leb a b ≡ leb c d
-same-test a b c d f g = go (leb a b) (leb c d) refl refl
-  where
-    go : (x y : Bool) → leb a b ≡ x → leb c d ≡ y → leb a b ≡ leb c d
-    go true y p q = p ∙ sym (le-leb _ _ (f (leb-true _ _ p)))
-    go false true p q = let z : a ≤ b = g (leb-true _ _ q) in absurd (omega (arith, leb-false a b p))
-    go false false p q = p ∙ sym q

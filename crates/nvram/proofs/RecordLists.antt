@@ -14,7 +14,7 @@ use Rattle.bank.specs.Record.{Record, sizeOf, sizes, guidOf, deletedState, reco
 use Rattle.bank.specs.Figures.{select}
 use Rattle.bank.specs.WellFormed.{FineRecord, FineRecords}
 use Rattle.bank.proofs.WalkLaws.{by-test}
-use Rattle.nvram.specs.Edit.{matches, deleted, removed, fresh}
+use Rattle.nvram.specs.Edit.{Manner, plain, Edit, insert, remove, ByteEdit, matches, deleted, removed, attributesOf, fresh, editedBy, grows}
 use Rattle.nvram.proofs.RecordLaws.{and-both}
 
 pub records-append : (rs qs : List Record) → recordsBytes (rs ++ qs) ≡ recordsBytes rs ++ recordsBytes qs
@@ -98,12 +98,13 @@ unfolding below
 guid-bytes Common = below-bytes (guidOf Common) refl
 guid-bytes System = below-bytes (guidOf System) refl
 
-pub fine-fresh : (key value : List ℕ) (typ : VarType) → Bytes key → Bytes value → length key ≤ 131072 → length value ≤ 131072
-    → FineRecord (fresh key value typ)
-fine-fresh key value typ b d k v =
+pub fine-fresh : (attributes : ℕ) (key value : List ℕ) (typ : VarType) → attributes < 4294967296 → Bytes key → Bytes value → length key ≤ 131072
+    → length value ≤ 131072
+    → FineRecord (fresh attributes key value typ)
+fine-fresh attributes key value typ a b d k v =
     record {
       state-fits = omega arith;
-      attributes-fit = omega arith;
+      attributes-fit = a;
       guid-long = guid-length typ;
       guid-bytes = guid-bytes typ;
       key-fits = omega arith;
@@ -111,3 +112,21 @@ fine-fresh key value typ b d k v =
       value-fits = omega arith;
       value-bytes = d;
     }
+
+-- edits
+
+pub attributes-fit : (m : Manner) → attributesOf m < 4294967296
+attributes-fit plain = omega arith
+
+pub sizes-edited : (e : Edit) (rs : List Record) → sizes (editedBy e rs) ≡ sizes rs + grows e
+unfolding sizes editedBy grows
+sizes-edited (insert m key value typ) rs =
+    omega (arith, sizes-append (removed key typ rs) (fresh (attributesOf m) key value typ ∷ []), sizes-removed key typ rs)
+sizes-edited (remove key typ) rs = omega (arith, sizes-removed key typ rs)
+
+pub fine-edited : (e : Edit) (rs : List Record) → ByteEdit e → grows e ≤ 131072 → FineRecords rs → FineRecords (editedBy e rs)
+unfolding sizeOf editedBy grows
+fine-edited (insert m key value typ) rs y h f =
+    fine-append (removed key typ rs) (fresh (attributesOf m) key value typ ∷ []) (fine-removed key typ rs f)
+    (fine-fresh (attributesOf m) key value typ (attributes-fit m) (y .0) (y .1) (omega arith) (omega arith), tt)
+fine-edited (remove key typ) rs y h f = fine-removed key typ rs f

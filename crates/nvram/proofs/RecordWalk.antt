@@ -18,7 +18,8 @@ use Rattle.bank.proofs.LengthLaws.{length-record, length-records}
 use Rattle.bank.proofs.LeafLaws.{name-is, value-is}
 use Rattle.bank.proofs.RecordBack.{record-of-back}
 use Rattle.nvram.specs.declared.records.Located.the-variants.{At, Nothing}
-use Rattle.nvram.specs.Edit.{matches, deleted, removed, Found, foundIn}
+use Rattle.nvram.specs.declared.records.Found.{Found}
+use Rattle.nvram.specs.Edit.{matches, deleted, removed, foundIn}
 use Rattle.nvram.specs.Part.{isRecord}
 use Rattle.nvram.specs.Records.{Holds, deletedAt, located}
 use Rattle.nvram.proofs.RecordLaws.{strict, record-strict, size-back, name-back, value-back}
@@ -176,7 +177,7 @@ look {rs = rs} key typ h = record { todo = rs; holds = h; goal = refl }
 pub record Seen (key : List ℕ) (typ : VarType) (w : List ℕ) (at to : ℕ) (o : Option Found) (h : VarHeader) : Type 0 where
   pub test : isRecord (lent w at) ≡ true
   pub within : at + (36 + h .«name_size» + h .«data_size») ≤ to
-  pub hit : matches key typ (recordOf (lent w at)) ≡ true → (n : ℕ) → n ≡ 36 + h .«name_size» + 0 → At (at + n) (h .«data_size») ≡ located o
+  pub hit : matches key typ (recordOf (lent w at)) ≡ true → (n : ℕ) → n ≡ 36 + h .«name_size» + 0 → At (record { place = at + n; long = h .«data_size» }) ≡ located o
   pub next : matches key typ (recordOf (lent w at)) ≡ false → (n : ℕ) → n ≡ 36 + h .«name_size» + h .«data_size» → Look key typ w (at + n) to o
 
 module _ (key : List ℕ) (typ : VarType) (w : List ℕ) (at to : ℕ) (o : Option Found) where
@@ -198,7 +199,7 @@ module _ (key : List ℕ) (typ : VarType) (w : List ℕ) (at to : ℕ) (o : Opti
             λ m n q.
             let t : matches key typ r ≡ true = sym same ∙ m in
             let p : at + n ≡ at + 36 + (length (r .key) + 1) = omega (arith, k .name) in
-            ap₂ At p (b ∙ k .value) ∙ ap located (rw t at goal);
+            ap₂ (λ (i j : ℕ). At (record { place = i; long = j })) p (b ∙ k .value) ∙ ap located (rw t at goal);
         next =
             λ m n q.
             let t : matches key typ r ≡ false = sym same ∙ m in

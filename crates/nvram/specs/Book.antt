@@ -28,9 +28,13 @@ pub record FineBook (b : Book) : Type 0 where
 abbrev pub activeSlot : Book → Slot
 activeSlot b = getD (b .slots) (b .active) invalid
 
+-- bank i becomes active, and holds k
+abbrev pub withBank : Book → ℕ → Bank → Book
+withBank b i k = record { n = b .n; active = i; slots = set (b .slots) i (valid k) }
+
 -- the book with another bank in the active slot
 abbrev pub withActive : Book → Bank → Book
-withActive b k = record { n = b .n; active = b .active; slots = set (b .slots) (b .active) (valid k) }
+withActive b k = withBank b (b .active) k
 
 abbrev pub withRecords : Bank → List Record → Bank
 withRecords k rs = bankOf (k .header) rs (k .usable)

@@ -1,5 +1,6 @@
 -- Calls as data, and what each does to the book and answers (01, 'A commit, from the entry down', 'Edits and lookups', 'Refusals').
-use Prim.Native.Nat.{ℕ, _+_, _*_}
+use Prim.Native.Nat.{ℕ, zero, suc, _+_, _*_}
+use mathlib.Core.Logic.{_≢_}
 use mathlib.Core.List.{List, []}
 use mathlib.Core.Bool.{cond}
 use mathlib.Core.Option.{Option, none}
@@ -7,18 +8,17 @@ use lib.Dec.{leb, ltb}
 use lib.ListN.{length}
 use Rattle.crc32.specs.Crc32.{Bytes}
 use Rattle.bank.specs.declared.variable.VarType.{VarType}
-use Rattle.bank.specs.Record.{sizeOf}
 use Rattle.bank.specs.Bank.{Bank, Slot, empty, invalid, valid, bankSize}
-use Rattle.bank.specs.Figures.{total, liveTotal}
-use Rattle.nvram.specs.Edit.{removed, inserted, fresh, Found, foundIn, valueIn}
+use Rattle.bank.specs.Figures.{liveTotal}
+use Rattle.nvram.specs.declared.records.Found.{Found}
+use Rattle.nvram.specs.Edit.{Edit, ByteEdit, editedBy, refusedEdit, foundIn, valueIn}
 use Rattle.nvram.specs.Part.{partSize}
 use Rattle.nvram.specs.Book.{Book, activeSlot, withActive, withRecords}
-use Rattle.nvram.specs.Commit.{Judged, refuse, inPlace, move, judge, moved, nextBank, nextSlot, request, movedBook, output, imageOutput, anyOverfull}
+use Rattle.nvram.specs.Commit.{Judged, refuse, inPlace, move, judgeBank, moved, nextBank, nextSlot, request, movedBook, output, imageOutput, anyOverfull}
 
 -- lookup answers the place, fetch the bytes themselves; of a lent output a commit and a whole image see the length
 pub data Call : Type 0 where
-  insert : List ℕ → List ℕ → VarType → Call
-  remove : List ℕ → VarType → Call
+  edit : Edit → Call
   lookup : List ℕ → VarType → Call
   fetch : List ℕ → VarType → Call
   commit : ℕ → Call
@@ -26,8 +26,7 @@ pub data Call : Type 0 where
 
 -- keys and values are bytes, as every slice is
 abbrev pub ByteCall : Call → Type 0
-ByteCall (insert key value typ) = Bytes key × Bytes value
-ByteCall (remove key typ) = Bytes key
+ByteCall (edit e) = ByteEdit e
 ByteCall (lookup key typ) = Bytes key
 ByteCall (fetch key typ) = Bytes key
 ByteCall (commit room) = Unit {0}
@@ -59,12 +58,19 @@ erase (joined k long) = none
 
 -- the answer of a call that is refused by a number
 abbrev pub refusal : Call → ℕ → Answer
-refusal (insert key value typ) k = edited k
-refusal (remove key typ) k = edited k
+refusal (edit e) k = edited k
 refusal (lookup key typ) k = looked k none
 refusal (fetch key typ) k = handed
 refusal (commit room) k = committed k none 0 0
 refusal (wholeImage room) k = joined k 0
+
+-- the answers after which state and work area hold the book after the call: of a commit all but 12
+abbrev pub Follows : Call → Answer → Type 0
+Follows (edit e) a = Unit {0}
+Follows (lookup key typ) a = Unit {0}
+Follows (fetch key typ) a = Unit {0}
+Follows (commit room) a = number a ≢ 12
+Follows (wholeImage room) a = Unit {0}
 
 -- an answer, the bytes handed back, the book after, and the book that state and work area hold after: another one where 12 keeps the move
 pub record Outcome : Type 0 where
@@ -83,30 +89,26 @@ hand b a x = record { answer = a; out = x; after = b; laid = b }
 abbrev pub change : Book → Bank → Outcome
 change b k = record { answer = edited 0; out = []; after = withActive b k; laid = withActive b k }
 
--- each call by the active slot: 7 where it isn't Valid, and for insert 8 where total would go over 131,072
+-- what is done to the bank of a slot; 7 where it isn't Valid
+unfoldable pub bySlot : Book → Call → (Bank → Outcome) → Slot → Outcome
+bySlot b c f empty = stay b (refusal c 7)
+bySlot b c f invalid = stay b (refusal c 7)
+bySlot b c f (valid k) = f k
 
-unfoldable pub insertIn : Book → List ℕ → List ℕ → VarType → Slot → Outcome
-insertIn b key value typ empty = stay b (edited 7)
-insertIn b key value typ invalid = stay b (edited 7)
-insertIn b key value typ (valid k) =
-    cond (leb (total k + sizeOf (fresh key value typ)) partSize) (change b (withRecords k (inserted key value typ (k .records))))
-    (stay b (edited 8))
+-- an edit of the active bank, by the number that refuses it
+unfoldable pub editAs : Book → Edit → Bank → ℕ → Outcome
+editAs b e k zero = change b (withRecords k (editedBy e (k .records)))
+editAs b e k (suc n) = stay b (edited (suc n))
 
-unfoldable pub removeIn : Book → List ℕ → VarType → Slot → Outcome
-removeIn b key typ empty = stay b (edited 7)
-removeIn b key typ invalid = stay b (edited 7)
-removeIn b key typ (valid k) = change b (withRecords k (removed key typ (k .records)))
+unfoldable pub editBank : Book → Edit → Bank → Outcome
+editBank b e k = editAs b e k (refusedEdit e k)
 
 -- the place is counted from the start of the work area
-unfoldable pub lookupIn : Book → List ℕ → VarType → Slot → Outcome
-lookupIn b key typ empty = stay b (looked 7 none)
-lookupIn b key typ invalid = stay b (looked 7 none)
-lookupIn b key typ (valid k) = stay b (looked 0 (foundIn key typ (b .active * partSize + 24) (k .records)))
+unfoldable pub lookupBank : Book → List ℕ → VarType → Bank → Outcome
+lookupBank b key typ k = stay b (looked 0 (foundIn key typ (b .active * partSize + 24) (k .records)))
 
-unfoldable pub fetchIn : Book → List ℕ → VarType → Slot → Outcome
-fetchIn b key typ empty = stay b handed
-fetchIn b key typ invalid = stay b handed
-fetchIn b key typ (valid k) = hand b handed (valueIn key typ (k .records))
+unfoldable pub fetchBank : Book → List ℕ → VarType → Bank → Outcome
+fetchBank b key typ k = hand b handed (valueIn key typ (k .records))
 
 -- a commit that moves, and makes this erase request
 abbrev pub moves : Book → Bank → Option ℕ → Outcome
@@ -131,26 +133,23 @@ commitAs b k (refuse n) = stay b (committed n none 0 0)
 commitAs b k inPlace = hand b (committed 0 none (b .active * bankSize) (k .header .size)) (output k)
 commitAs b k move = moveIn b k (request (nextSlot b) (nextBank b))
 
-unfoldable pub commitIn : Book → Slot → Outcome
-commitIn b empty = stay b (committed 7 none 0 0)
-commitIn b invalid = stay b (committed 7 none 0 0)
-commitIn b (valid k) = commitAs b k (judge k)
+unfoldable pub commitBank : Book → Bank → Outcome
+commitBank b k = commitAs b k (judgeBank k)
 
 -- 5 where the output is too short
 unfoldable pub commitTo : Book → ℕ → Outcome
-commitTo b room = cond (ltb room bankSize) (stay b (committed 5 none 0 0)) (commitIn b (activeSlot b))
+commitTo b room = cond (ltb room bankSize) (stay b (refusal (commit room) 5)) (bySlot b (commit room) (commitBank b) (activeSlot b))
 
 -- 5, then 13 where a Valid bank has total > size
 unfoldable pub imageTo : Book → ℕ → Outcome
 imageTo b room =
-    cond (ltb room (b .n * bankSize)) (stay b (joined 5 0))
-    (cond (anyOverfull (b .slots)) (stay b (joined 13 0))
+    cond (ltb room (b .n * bankSize)) (stay b (refusal (wholeImage room) 5))
+    (cond (anyOverfull (b .slots)) (stay b (refusal (wholeImage room) 13))
     (hand b (joined 0 (length (imageOutput (b .slots)))) (imageOutput (b .slots))))
 
 unfoldable pub step : Book → Call → Outcome
-step b (insert key value typ) = insertIn b key value typ (activeSlot b)
-step b (remove key typ) = removeIn b key typ (activeSlot b)
-step b (lookup key typ) = lookupIn b key typ (activeSlot b)
-step b (fetch key typ) = fetchIn b key typ (activeSlot b)
+step b (edit e) = bySlot b (edit e) (editBank b e) (activeSlot b)
+step b (lookup key typ) = bySlot b (lookup key typ) (lookupBank b key typ) (activeSlot b)
+step b (fetch key typ) = bySlot b (fetch key typ) (fetchBank b key typ) (activeSlot b)
 step b (commit room) = commitTo b room
 step b (wholeImage room) = imageTo b room

@@ -3,14 +3,15 @@ use Prim.Native.Nat.{ℕ, _+_, _*_, _%_}
 use mathlib.Core.List.{List, [], _∷_, _++_}
 use mathlib.Core.Bool.{Bool, false, _||_, cond}
 use mathlib.Core.Option.{Option, none, some}
-use lib.ListN.{getD, set}
-use lib.Dec.{leb, ltb, eqb}
+use lib.ListN.{getD}
+use lib.Dec.{ltb, eqb}
 use Rattle.bank.specs.declared.header.StoreHeader.{StoreHeader}
 use Rattle.bank.specs.Record.{live}
 use Rattle.bank.specs.Bank.{Bank, Slot, empty, invalid, valid, bankSize, padded, bankBytes}
 use Rattle.bank.specs.Read.{bankOf}
-use Rattle.bank.specs.Figures.{select, total, systemUsed, commonUsed}
-use Rattle.nvram.specs.Book.{Book}
+use Rattle.bank.specs.Figures.{select, total}
+use Rattle.nvram.specs.Book.{Book, withBank}
+use Rattle.nvram.specs.Figures.{systemUsed, commonUsed}
 
 -- what a commit is to do: nothing, for a refusal; write the bank where it is; or move it
 pub data Judged : Type 0 where
@@ -18,12 +19,19 @@ pub data Judged : Type 0 where
   inPlace : Judged
   move : Judged
 
--- live system records larger in sum than the header's limit: 9; then common: 10; a move that is due at the last generation: 11
-unfoldable pub judge : Bank → Judged
-judge k =
-    cond (ltb (k .header .«system_size») (systemUsed k)) (refuse 9)
-    (cond (ltb (k .header .«common_size») (commonUsed k)) (refuse 10)
-    (cond (leb (total k) (k .usable)) inPlace (cond (eqb (k .header .generation) 4294967295) (refuse 11) move)))
+-- by a header, what live records come to by section, and whether a move is due: live system records larger in sum than the header's limit: 9;
+-- then common: 10; a move that is due at the last generation: 11
+unfoldable pub judge : StoreHeader → ℕ → ℕ → Bool → Judged
+judge h system common due =
+    cond (ltb (h .«system_size») system) (refuse 9)
+    (cond (ltb (h .«common_size») common) (refuse 10) (cond due (cond (eqb (h .generation) 4294967295) (refuse 11) move) inPlace))
+
+-- a move is due unless total ≤ usable
+unfoldable pub due : Bank → Bool
+due k = ltb (k .usable) (total k)
+
+unfoldable pub judgeBank : Bank → Judged
+judgeBank k = judge (k .header) (systemUsed k) (commonUsed k) (due k)
 
 abbrev pub raised : StoreHeader → StoreHeader
 raised h =
@@ -54,7 +62,7 @@ request (valid k) i = some (i * bankSize)
 
 -- the new bank becomes active; with two banks or more the old slot stays
 abbrev pub movedBook : Book → Bank → Book
-movedBook b k = record { n = b .n; active = nextBank b; slots = set (b .slots) (nextBank b) (valid (moved k)) }
+movedBook b k = withBank b (nextBank b) (moved k)
 
 -- header, all records, and 0xFF up to the header's size
 unfoldable pub output : Bank → List ℕ

@@ -1,6 +1,6 @@
 -- The contract of every call: what it answers and leaves is what the call does to the book that state and work area hold, laid out again;
 -- or 6, and nothing changed.
-use Prim.Native.Nat.{ℕ, _+_, min}
+use Prim.Native.Nat.{ℕ}
 use mathlib.Core.Path.{_≡_}
 use mathlib.Core.List.{List, []}
 use mathlib.Core.Option.{Option, none, some}
@@ -13,7 +13,8 @@ use Rattle.nvram.specs.Part.{entry}
 use Rattle.nvram.specs.Book.{Book}
 use Rattle.nvram.specs.Opening.{Opened, opened, refused}
 use Rattle.nvram.specs.Layout.{layState, layWork, view}
-use Rattle.nvram.specs.Call.{Call, Answer, looked, erase, refusal, step}
+use Rattle.nvram.specs.Call.{Call, Answer, looked, refusal, step}
+use Rattle.nvram.specs.Tally.{tallied}
 
 pub record After : Type 0 where
   pub answer : Answer
@@ -21,18 +22,13 @@ pub record After : Type 0 where
   pub state : Nvram
   pub work : List ℕ
 
--- erase requests since opening (01, 'A commit, from the entry down'), stopping at 4,294,967,295
-abbrev pub tallied : ℕ → Option ℕ → ℕ
-tallied tally none = tally
-tallied tally (some offset) = min (tally + 1) 4294967295
-
 unfoldable pub onBook : Option Book → Call → Nvram → List ℕ → After
 onBook none c s w = record { answer = refusal c 6; out = []; state = s; work = w }
 onBook (some b) c s w =
     record {
       answer = step b c .answer;
       out = step b c .out;
-      state = layState (step b c .laid) (tallied (s .tally) (erase (step b c .answer)));
+      state = layState (step b c .laid) (tallied c (step b c .answer) (s .tally));
       work = layWork (step b c .laid) w;
     }
 
@@ -46,9 +42,9 @@ pub record Does (c : Call) (s : Nvram) (w : List ℕ) (a : Answer) (x : List ℕ
   pub state : s′ ≡ call c s w .state
   pub work : w′ ≡ call c s w .work
 
--- a lookup's answer by cases: found with place and length, none, or refused by a number
+-- a lookup's answer by cases: found, none, or refused by a number
 abbrev pub told : Lookup → Answer
-told (At place long) = looked 0 (some (record { place = place; long = long }))
+told (At f) = looked 0 (some f)
 told Nothing = looked 0 none
 told (Refused k) = looked k none
 

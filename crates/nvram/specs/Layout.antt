@@ -12,6 +12,7 @@ use Rattle.nvram.specs.declared.state.Entry.{Entry}
 use Rattle.nvram.specs.declared.state.Nvram.{Nvram}
 use Rattle.nvram.specs.Part.{partSize, entry, entryOf, viewSlot}
 use Rattle.nvram.specs.Book.{Book}
+use Rattle.nvram.specs.Tally.{Tally}
 
 -- laid out
 
@@ -20,7 +21,7 @@ unfoldable pub layTable : List Slot → List Entry
 layTable ss = map entryOf ss ++ replicate (16 - length ss) (entry Empty 0 0)
 
 -- the tally is no part of the book
-abbrev pub layState : Book → ℕ → Nvram
+abbrev pub layState : Book → Tally → Nvram
 layState b tally = record { n = b .n; active = b .active; tally = tally; banks = layTable (b .slots) }
 
 abbrev pub setEntry : Nvram → ℕ → Entry → Nvram

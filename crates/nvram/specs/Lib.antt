@@ -1,12 +1,13 @@
-pub mod Edit
 pub mod Part
+pub mod Edit
 pub mod Records
 pub mod Book
 pub mod Figures
 pub mod Checked
 pub mod Opening
-pub mod Layout
-pub mod Ready
 pub mod Commit
 pub mod Call
+pub mod Tally
+pub mod Layout
+pub mod Ready
 pub mod Contract

@@ -12,7 +12,8 @@ use Rattle.nvram.specs.declared.records.Located.{Located}
 use Rattle.nvram.specs.declared.records.Located.the-variants.{At, Nothing}
 use Rattle.nvram.specs.declared.records.Next.{Next}
 use Rattle.nvram.specs.declared.records.Next.the-variants.{Onward, Stop}
-use Rattle.nvram.specs.Edit.{matches, Found}
+use Rattle.nvram.specs.declared.records.Found.{Found}
+use Rattle.nvram.specs.Edit.{matches}
 use Rattle.nvram.specs.Part.{isRecord}
 
 -- w holds the records rs from a place up to another
@@ -32,4 +33,4 @@ deletedAt key typ s = cond (matches key typ (recordOf s)) (set s 2 (deletedState
 
 abbrev pub located : Option Found → Located
 located none = Nothing
-located (some f) = At (f .place) (f .long)
+located (some f) = At f

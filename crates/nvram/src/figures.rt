@@ -5,7 +5,7 @@ ghost use mathlib.Core.Bool.{cond};
 ghost use Prim.Native.Nat.{_+_, _≤_, _<_};
 ghost use lib.ListN.{length};
 ghost use Rattle.bank.specs.Record.{recordOf};
-ghost use Rattle.nvram.specs.Figures.{noFigures, counted};
+ghost use Rattle.nvram.specs.Figures.{noFigures, figuresBy, plus};
 
 pub struct Figures {
     pub system: usize,
@@ -32,7 +32,7 @@ impl Figures {
     // With the record of n bytes that begins s, if it is to be counted.
     pub(crate) fn count(self, counting: bool, s: &[u8], n: usize) -> Figures
         requires { ⌜ (36 ≤ length (now s)) × (self .system + n < 18446744073709551616) × (self .common + n < 18446744073709551616) ⌝ }
-        ensures { λ r. ⌜ r ≡ cond counting (counted self (recordOf (now (s .entry))) n) self ⌝ }
+        ensures { λ r. ⌜ r ≡ cond counting (plus self (figuresBy (recordOf (now (s .entry))) n)) self ⌝ }
     {
         if !counting {
             return self;

@@ -1,5 +1,6 @@
 // Lookups of both kinds: 01, 'Edits and lookups'.
 use super::ready::Ready;
+use super::records::Found;
 use super::records::Located;
 use super::records::find;
 use super::state::Nvram;
@@ -8,9 +9,9 @@ ghost use mathlib.Core.List.{[]};
 ghost use Rattle.nvram.specs.Call.{lookup, fetch, handed};
 ghost use Rattle.nvram.specs.Contract.{Does, told};
 
-// Found at a place of the work area with a length, nothing, or refused by a number.
+// Found, nothing, or refused by a number.
 pub enum Lookup {
-    At(usize, usize),
+    At(Found),
     Nothing,
     Refused(u32),
 }
@@ -22,7 +23,7 @@ impl Nvram {
         match self.ready(work) {
             Ready::Refused(number) => Lookup::Refused(number),
             Ready::Records(from, to) => match find(work, from, to, key, typ) {
-                Located::At(place, long) => Lookup::At(place, long),
+                Located::At(found) => Lookup::At(found),
                 Located::Nothing => Lookup::Nothing,
             },
         }
@@ -33,8 +34,9 @@ impl Nvram {
         ensures { λ r. ⌜ Does (fetch (now (key .entry)) typ) self (now (work .entry)) handed (now r) self (now (work .entry)) ⌝ }
     {
         match self.get_variable(work, key, typ) {
-            Lookup::At(place, long) => {
-                let end = place + long;
+            Lookup::At(found) => {
+                let place = found.place;
+                let end = place + found.long;
                 &work[place..end]
             }
             Lookup::Nothing => &work[0..0],

@@ -16,9 +16,15 @@ ghost use Rattle.nvram.specs.Part.{isRecord, viewRecords};
 ghost use Rattle.nvram.specs.Checked.{checked, unsound, recordsFigures};
 ghost use Rattle.nvram.specs.Records.{Holds, nextAfter, deletedAt, located};
 
-// A value's place and length, or nothing.
+// A value's place in the work area, and its length.
+pub struct Found {
+    pub place: usize,
+    pub long: usize,
+}
+
+// A value, or nothing.
 pub(crate) enum Located {
-    At(usize, usize),
+    At(Found),
     Nothing,
 }
 
@@ -163,8 +169,11 @@ pub(crate) fn find(work: &[u8], from: usize, to: usize, key: &[u8], typ: VarType
         let rest = &work[at..];
         let header = VarHeader::parse(rest);
         if is_match(rest, key, typ) {
-            let value = at + Variable::size(header.name_size, 0);
-            return Located::At(value, header.data_size as usize);
+            let found = Found {
+                place: at + Variable::size(header.name_size, 0),
+                long: header.data_size as usize,
+            };
+            return Located::At(found);
         }
         at += Variable::size(header.name_size, header.data_size);
     }
@@ -172,13 +181,13 @@ pub(crate) fn find(work: &[u8], from: usize, to: usize, key: &[u8], typ: VarType
 }
 
 // Writes a live record over the work area from a place on.
-pub(crate) fn append(work: &mut [u8], at: usize, key: &[u8], value: &[u8], typ: VarType)
+pub(crate) fn append(work: &mut [u8], at: usize, attrs: u32, key: &[u8], value: &[u8], typ: VarType)
     requires { ⌜ (length (now key) ≤ 131072) × (length (now value) ≤ 131072) × (at + (37 + length (now key) + length (now value)) ≤ length (now work)) ⌝ }
-    ensures { λ _. ⌜ now (work .exit) ≡ over at (recordBytes (fresh (now (key .entry)) (now (value .entry)) typ)) (now (work .entry)) ⌝ }
+    ensures { λ _. ⌜ now (work .exit) ≡ over at (recordBytes (fresh attrs (now (key .entry)) (now (value .entry)) typ)) (now (work .entry)) ⌝ }
 {
     let name_size = (key.len() + 1) as u32;
     let data_size = value.len() as u32;
-    let header = Variable::fresh(typ, name_size, data_size, crc32::crc32(value)).serialize();
+    let header = Variable::fresh(typ, attrs, name_size, data_size, crc32::crc32(value)).serialize();
     let name = at + Variable::HEADER_SIZE;
     let closing = name + key.len();
     let data = closing + 1;

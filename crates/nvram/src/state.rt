@@ -17,11 +17,14 @@ pub struct Entry {
     pub usable: u32,
 }
 
-// n banks, of which one is active, and the erase requests since opening.
+// Erase requests since opening.
+pub type Tally = u32;
+
+// n banks, of which one is active.
 pub struct Nvram {
     pub n: u32,
     pub active: u32,
-    pub tally: u32,
+    pub tally: Tally,
     pub banks: [Entry; 16],
 }
 

@@ -80,7 +80,7 @@ pub(crate) fn lookup_right(state: Nvram, work: &[u8], line: &[u8]) -> bool {
     let mut key = key_room();
     let k = put_bytes(&mut key, 0, field(line, 2));
     match state.get_variable(work, &key[0..k], typ(line)) {
-        Lookup::At(place, long) => told(line, 0, 1, place as u64, long as u64),
+        Lookup::At(found) => told(line, 0, 1, found.place as u64, found.long as u64),
         Lookup::Nothing => told(line, 0, 0, 0, 0),
         Lookup::Refused(number) => told(line, number as u64, 0, 0, 0),
     }

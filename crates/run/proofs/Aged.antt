@@ -3,7 +3,7 @@ use Prim.Native.Nat.{ℕ, suc, _+_, _-_, _≤_}
 use native.Mathlib.Omega.{arith}
 use mathlib.Core.Path.{_≡_, refl, sym, ap, ap₂, _∙_, subst}
 use mathlib.Core.Bool.{Bool, cond}
-use mathlib.Core.List.{List, [], _∷_, _++_, append-assoc}
+use mathlib.Core.List.{List, [], _∷_, _++_, append-assoc, append-nil}
 use lib.Bits.{bitAnd, and-self}
 use lib.Dec.{eqb}
 use lib.ListN.{length, length-append}
@@ -20,7 +20,7 @@ use Rattle.bank.proofs.WalkLaws.{by-test}
 use Rattle.bank.proofs.PaddedLaws.{blanks, length-blanks}
 use Rattle.nvram.specs.Book.{withRecords}
 use Rattle.nvram.specs.Commit.{output}
-use Rattle.nvram.specs.Edit.{matches, deleted, removed}
+use Rattle.nvram.specs.Edit.{Edit, insert, remove, matches, deleted, removed, attributesOf, fresh, editedBy}
 use Rattle.run.specs.Flash.{ands}
 use Rattle.run.proofs.FlashLaws.{ands-ff, ands-same}
 use Rattle.run.proofs.OutputLaws.{length-output, bytes-output}
@@ -61,10 +61,15 @@ older-deleted t n =
     by-test (Older n) t _ _ (λ _. by-test (Older n) (eqb n 0x7F) _ _ (λ e. gone (eqb-true n 0x7F e) refl) (λ _. same refl)) (λ _. same refl)
 
 -- what an edit does to the records: a remove appends none, an insert one
-pub aged-removed : (key : List ℕ) (typ : VarType) (rs ts : List Record) → Aged rs (removed key typ rs ++ ts)
+aged-removed : (key : List ℕ) (typ : VarType) (rs ts : List Record) → Aged rs (removed key typ rs ++ ts)
 unfolding deleted
 aged-removed key typ [] ts = more
 aged-removed key typ (r ∷ rs) ts = next (older-deleted (matches key typ r) (r .state)) (aged-removed key typ rs ts)
+
+pub aged-edited : (e : Edit) (rs : List Record) → Aged rs (editedBy e rs)
+unfolding editedBy
+aged-edited (insert m key value typ) rs = aged-removed key typ rs (fresh (attributesOf m) key value typ ∷ [])
+aged-edited (remove key typ) rs = subst (Aged rs) (append-nil (removed key typ rs)) (aged-removed key typ rs [])
 
 -- the bytes
 

@@ -2,6 +2,7 @@
 -- requested twice. And the wear bound at the figures that 01 gives.
 use Prim.Native.Nat.{ℕ, _+_, _-_, _*_, _/_, _≤_, _<_}
 use mathlib.Core.Path.{_≡_, refl, sym, ap, ap₂, _∙_, subst}
+use mathlib.Core.Logic.{_≢_}
 use mathlib.Core.List.{List, [], _∷_, _++_}
 use mathlib.Core.Option.{some}
 use native.Mathlib.Omega.{arith}
@@ -18,30 +19,41 @@ use Rattle.bank.specs.Header.{headerBytes}
 use Rattle.bank.specs.Record.{sizeOf, sizes, recordsBytes, live, deletedState, typeOf}
 use Rattle.bank.specs.Bank.{Bank, Slot, valid, bankSize, padded, bankBytes}
 use Rattle.bank.specs.Read.{bankOf, readBank}
-use Rattle.bank.specs.Figures.{select, total, liveTotal, liveOf, systemUsed, commonUsed}
+use Rattle.bank.specs.Figures.{select, total, liveTotal, liveOf}
 use Rattle.bank.specs.WellFormed.{FineHeader}
 use Rattle.bank.proofs.BankBack.{bank-back}
 use Rattle.bank.proofs.PartitionLaws.{bank-size}
 use Rattle.bank.proofs.PaddedLaws.{length-blanks}
 use Rattle.nvram.specs.declared.state.Nvram.{Nvram}
-use Rattle.nvram.specs.Edit.{matches, deleted}
+use Rattle.nvram.specs.Edit.{plain, insert, matches, deleted, editedBy, grows, refusedEdit}
 use Rattle.nvram.specs.Part.{partSize}
 use Rattle.nvram.specs.Book.{Book, FineBook}
-use Rattle.nvram.specs.Commit.{judge, request, output}
+use Rattle.nvram.specs.Figures.{figuresBy, plus, figuresOf}
+use Rattle.nvram.specs.Commit.{judge, due, judgeBank, request, output}
 use Rattle.nvram.specs.Opening.{readSlots, activeFrom, anyValid, banksOf, bookOf, Opened, opened, opening}
 use Rattle.nvram.specs.Layout.{view}
-use Rattle.nvram.specs.Call.{Call, insert, commit, Answer, committed, number, erase, insertIn, moveIn, commitAs, commitIn, commitTo, step}
+use Rattle.nvram.specs.Call.{Call, ByteCall, edit, commit, Answer, committed, number, erase, bySlot, editAs, editBank, moveIn, commitAs, commitBank, commitTo, step}
 use Rattle.nvram.specs.Contract.{begun, call}
-use Rattle.nvram.proofs.StepLaws.{step-fine, settled, keeps}
-use Rattle.run.specs.Run.{Opens, Event, Run, Never, openedBook, Page, pages}
+use Rattle.nvram.proofs.StepLaws.{step-fine, follows, settled, keeps}
+use Rattle.run.specs.Run.{Opens, Event, Run, openedBook, Page, pages, Never}
 use Rattle.run.specs.Wear.{activeSize, mostLive, insertedBytes, requested, requests}
 use Rattle.run.specs.Demand.{Demand3}
-use Rattle.run.proofs.Trace.{trace, ByteCalls, No12}
 use Rattle.run.proofs.FlashLaws.{bytes-append, bytes-ff}
 use Rattle.run.proofs.OutputLaws.{length-output, bytes-output}
-use Rattle.run.proofs.Agree.{Agree, starts, agree}
+use Rattle.run.proofs.EachLaws.{each-none, each-more}
+use Rattle.run.proofs.Start.{starts}
+use Rattle.run.proofs.Along.{Along, opened-along}
 
 -- every list of calls has a run
+
+abbrev ByteCalls : List Call → Type 0
+ByteCalls [] = Unit {0}
+ByteCalls (c ∷ cs) = ByteCall c × ByteCalls cs
+
+-- the book refuses none of them by 12
+unfoldable No12 : Book → List Call → Type 0
+No12 b [] = Unit {0}
+No12 b (c ∷ cs) = (number (step b c .answer) ≢ 12) × No12 (step b c .after) cs
 
 unfoldable eventsOf : Nvram → List ℕ → List Call → List Event
 eventsOf s w [] = []
@@ -56,17 +68,16 @@ run-of s w (c ∷ cs) y =
     (y .0, record { answer = refl; out = refl; state = refl; work = refl }, run-of (call c s w .state) (call c s w .work) cs (y .1))
 
 -- without 12 where the book has none
-never-of : (b : Book) (s : Nvram) (w : List ℕ) (cs : List Call) → FineBook b → view s w ≡ some b → ByteCalls cs → No12 (trace b cs)
-    → Never 12 (eventsOf s w cs)
-unfolding eventsOf trace
-never-of b s w [] f v y n = tt
+never-of : (b : Book) (s : Nvram) (w : List ℕ) (cs : List Call) → FineBook b → view s w ≡ some b → ByteCalls cs → No12 b cs
+    → Never 12 (pages b (eventsOf s w cs))
+unfolding eventsOf No12 pages
+never-of b s w [] f v y n = each-none _
 never-of b s w (c ∷ cs) f v y n =
     let a = call c s w in
     let k = keeps c s w b (a .answer) (a .out) (a .state) (a .work) (y .0) f v (record { answer = refl; out = refl; state = refl; work = refl }) in
-    let same : step b c .laid ≡ step b c .after = settled b c (n .0) in (
-      (λ q. n .0 (sym (ap number (k .answer)) ∙ q)),
-      never-of (step b c .after) (a .state) (a .work) cs (subst FineBook same (step-fine b c (y .0) f)) (k .viewed ∙ ap some same) (y .1) (n .1),
-    )
+    let same : step b c .laid ≡ step b c .after = settled b c (follows c (step b c .answer) (n .0)) in
+    each-more _ _ _ (λ q. n .0 (sym (ap number (k .answer)) ∙ q))
+    (never-of (step b c .after) (a .state) (a .work) cs (subst FineBook same (step-fine b c (y .0) f)) (k .viewed ∙ ap some same) (y .1) (n .1))
 
 -- the image
 
@@ -137,7 +148,7 @@ opens =
 -- the calls
 
 abbrev put : Call
-put = insert (replicate 1 255) (replicate 10 255) Common
+put = edit (insert plain (replicate 1 255) (replicate 10 255) Common)
 
 abbrev calls : List Call
 calls = put ∷ put ∷ commit 65536 ∷ put ∷ commit 65536 ∷ []
@@ -145,8 +156,8 @@ calls = put ∷ put ∷ commit 65536 ∷ put ∷ commit 65536 ∷ []
 calls-bytes : ByteCalls calls
 calls-bytes = let y : Bytes (replicate 1 255) × Bytes (replicate 10 255) = (bytes-ff 1, bytes-ff 10) in (y, (y, (tt, (y, (tt, tt)))))
 
-not-12 : No12 (trace book calls)
-unfolding trace step insertIn commitTo commitIn commitAs judge moveIn total liveTotal systemUsed commonUsed select liveOf live sizes sizeOf matches deleted deletedState typeOf eqBytes request bankSize partSize
+not-12 : No12 book calls
+unfolding No12 step bySlot editBank editAs refusedEdit editedBy grows commitTo commitBank commitAs judgeBank judge due figuresOf figuresBy plus moveIn total liveTotal select liveOf live sizes sizeOf matches deleted deletedState typeOf eqBytes request bankSize partSize
 not-12 = ((λ e. omega arith), ((λ e. omega arith), ((λ e. omega arith), ((λ e. omega arith), ((λ e. omega arith), tt)))))
 
 -- what they ask for
@@ -164,9 +175,9 @@ pub record Twice (b : Book) (es : List Event) : Type 0 where
   pub within : mostLive (first ∷ between) ≤ activeSize b
   pub requested-once : 0 < requests (earlier ++ (first ∷ []))
 
-module _ (s : Nvram) (w : List ℕ) (a : Agree book 0 (eventsOf s w calls)) where
+module _ (f : List ℕ) (s : Nvram) (w : List ℕ) (a : Along book f book 0 (pages book (eventsOf s w calls))) where
   twice : Twice book (eventsOf s w calls)
-  unfolding eventsOf pages mostLive requests step insertIn commitTo commitIn commitAs judge moveIn total liveTotal systemUsed commonUsed select liveOf live sizes sizeOf matches deleted deletedState typeOf eqBytes request bankSize partSize
+  unfolding eventsOf pages mostLive requests step bySlot editBank editAs refusedEdit editedBy grows commitTo commitBank commitAs judgeBank judge due figuresOf figuresBy plus moveIn total liveTotal select liveOf live sizes sizeOf matches deleted deletedState typeOf eqBytes request bankSize partSize
   twice =
       record {
         earlier = _ ∷ _ ∷ [];
@@ -175,10 +186,10 @@ module _ (s : Nvram) (w : List ℕ) (a : Agree book 0 (eventsOf s w calls)) wher
         second = _;
         later = [];
         parts = refl;
-        commits = a .1 .1 .0 .answer;
-        again = ap erase (a .1 .1 .1 .1 .0 .answer);
+        commits = a .2 .2 .1 .answer;
+        again = ap erase (a .2 .2 .2 .2 .1 .answer);
         within = omega arith;
-        requested-once = omega (arith, ap (λ (x : Answer). requested (erase x)) (a .1 .1 .0 .answer));
+        requested-once = omega (arith, ap (λ (x : Answer). requested (erase x)) (a .2 .2 .1 .answer));
       }
 
 -- the premises of `Claim`, of `wear` and of `reopening`, together
@@ -190,7 +201,7 @@ pub record Met : Type 0 where
   pub events : List Event
   pub opens : Opens image work state left
   pub runs : Run state left events
-  pub never : Never 12 events
+  pub never : Never 12 (pages (openedBook image) events)
   pub asks : Twice (openedBook image) events
 
 pub premises-met : Met
@@ -202,8 +213,8 @@ premises-met =
     let o : Opens image work s w =
     record { bytes = image-bytes; accepted = ap (λ (x : Opened). begun x work .number) opens; state = refl; left = refl } in
     let q = starts image work s w o in
-    let n : Never 12 es =
-    never-of (openedBook image) s w calls (q .fine) (q .viewed) calls-bytes (subst (λ (b : Book). No12 (trace b calls)) (sym book-opened) not-12) in
+    let n : Never 12 (pages (openedBook image) es) =
+    never-of (openedBook image) s w calls (q .fine) (q .viewed) calls-bytes (subst (λ (b : Book). No12 b calls) (sym book-opened) not-12) in
     record {
       image = image;
       work = work;
@@ -214,8 +225,8 @@ premises-met =
       runs = run-of s w calls calls-bytes;
       never = n;
       asks =
-          subst (λ (b : Book). Agree b 0 es → Twice b es) (sym book-opened) (twice s w)
-          (agree image work s w es o (run-of s w calls calls-bytes) n);
+          subst (λ (b : Book). Along b image b 0 (pages b es) → Twice b es) (sym book-opened) (twice image s w)
+          (opened-along (λ f p. number (p .event .answer) ≢ 12) (λ f p. follows (p .event .call) (p .event .answer)) image work s w es o (run-of s w calls calls-bytes) n .0);
     }
 
 -- n 2, S 65,536, L at most 8,192: at least 114,690 bytes

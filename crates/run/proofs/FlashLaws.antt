@@ -1,20 +1,20 @@
 -- The flash, bank by bank: what an erase and a write leave in a bank, and in the others.
-use Prim.Native.Nat.{ℕ, zero, suc, _+_, _-_, _*_, _≤_, _<_}
+use Prim.Native.Nat.{ℕ, zero, suc, _+_, _*_, _≤_, _<_}
 use native.Mathlib.Omega.{arith}
 use native.Mathlib.Nat.{mul-le-mul-right, suc-mul, mod-eq-of-lt, lt-of-le-of-lt}
 use native.Mathlib.Decide.{decLe}
-use mathlib.Core.Path.{_≡_, refl, sym, ap, ap₂, _∙_}
+use mathlib.Core.Path.{_≡_, refl, sym, ap, ap₂, _∙_, subst}
 use mathlib.Core.Logic.{_≢_}
 use mathlib.Core.List.{List, [], _∷_, _++_, append-nil}
 use lib.Bits.{bitAnd, and-self, and-mask, and-comm, and-le-r}
 use lib.ListN.{length, getD, take, drop, take-append-drop, length-drop, drop-of-length-le}
-use lib.Seq.{take-append-le, drop-append-le, take-append-add, drop-at, take-take, length-take-le, drop-drop, take-add}
+use lib.Seq.{take-append-le, drop-append-le, take-at, drop-at, length-take-le, drop-drop}
 use Rattle.crc32.specs.Crc32.{Bytes}
 use Rattle.crc32.proofs.ByTable.{bytes-take, bytes-drop}
 use Rattle.bank.specs.Bank.{bankSize}
 use Rattle.bank.specs.Write.{over}
 use Rattle.bank.proofs.PaddedLaws.{blanks, length-blanks}
-use Rattle.nvram.proofs.PutLaws.{length-over, drop-over}
+use Rattle.nvram.proofs.PutLaws.{length-over, drop-over, over-inside}
 use Rattle.run.specs.Flash.{erased, ands, written}
 
 -- bytes
@@ -75,7 +75,21 @@ ands-same (a ∷ x) y z = ap₂ (λ (b : ℕ) (l : List ℕ). b ∷ l) (and-self
 abbrev pub bankIn : List ℕ → ℕ → List ℕ
 bankIn flash i = take bankSize (drop (i * bankSize) flash)
 
--- what stands before the bytes that are put over others
+-- the flash f′ is f but for bank i, where x stands
+pub record Replaced (f f′ : List ℕ) (i : ℕ) (x : List ℕ) : Type 0 where
+  pub bytes : Bytes f′
+  pub here : bankIn f′ i ≡ x
+  pub other : (j : ℕ) → j ≢ i → bankIn f′ j ≡ bankIn f j
+  pub long : length f′ ≡ length f
+
+pub untouched : (f : List ℕ) (i : ℕ) → Bytes f → Replaced f f i (bankIn f i)
+untouched f i b = record { bytes = b; here = refl; other = λ j ne. refl; long = refl }
+
+pub replaced-again : {f g h : List ℕ} {i : ℕ} {x y : List ℕ} → Replaced f g i x → Replaced g h i y → Replaced f h i y
+replaced-again r s =
+    record { bytes = s .bytes; here = s .here; other = λ j ne. s .other j ne ∙ r .other j ne; long = s .long ∙ r .long }
+
+-- the same k bytes from m on, whatever stands behind a
 before : (a y z : List ℕ) (m k : ℕ) → m + k ≤ length a → take k (drop m (a ++ y)) ≡ take k (drop m (a ++ z))
 before a y z m k h =
     let i : m ≤ length a = omega arith in
@@ -90,96 +104,98 @@ module _ (flash : List ℕ) (n i : ℕ) (inside : i < n) (long : n * bankSize �
   pub bank-long : length (bankIn flash i) ≡ bankSize
   bank-long = length-take-le bankSize (drop (i * bankSize) flash) (omega (arith, length-drop (i * bankSize) flash, bank-ends))
 
-  -- bytes that are put over it from its start
-  module _ (x : List ℕ) (small : length x ≤ bankSize) where
-    fits : i * bankSize + length x ≤ length flash
+  -- what stands before it, the bank, and what stands behind it
+  abbrev front : List ℕ
+  front = take (i * bankSize) flash
+
+  abbrev back : List ℕ
+  back = drop bankSize (drop (i * bankSize) flash)
+
+  front-long : length front ≡ i * bankSize
+  front-long = length-take-le (i * bankSize) flash (omega (arith, bank-ends))
+
+  parts : flash ≡ front ++ (bankIn flash i ++ back)
+  parts =
+      sym (take-append-drop (i * bankSize) flash)
+      ∙ ap (λ (y : List ℕ). front ++ y) (sym (take-append-drop bankSize (drop (i * bankSize) flash)))
+
+  -- bytes that are put over it, anywhere inside
+  module _ (j : ℕ) (x : List ℕ) (small : j + length x ≤ bankSize) where
+    abbrev at : ℕ
+    at = i * bankSize + j
+
+    fits : at + length x ≤ length flash
     fits = omega (arith, bank-ends)
 
-    over-long : length (over (i * bankSize) x flash) ≡ length flash
-    over-long = length-over (i * bankSize) x flash fits
-
-    over-here : bankIn (over (i * bankSize) x flash) i ≡ x ++ drop (length x) (bankIn flash i)
-    unfolding over
+    over-here : bankIn (over at x flash) i ≡ over j x (bankIn flash i)
     over-here =
-        let d = bankSize - length x in
-        let e : bankSize ≡ length x + d = omega arith in
-        let l : length x ≤ length (drop (i * bankSize) flash) = omega (arith, length-drop (i * bankSize) flash, fits) in
-        let t : length (take (i * bankSize) flash) ≡ i * bankSize = length-take-le (i * bankSize) flash (omega (arith, fits)) in
-        let b : bankIn flash i ≡ take (length x) (drop (i * bankSize) flash) ++ take d (drop (length x) (drop (i * bankSize) flash)) =
-        ap (λ (k : ℕ). take k (drop (i * bankSize) flash)) e ∙ take-add (length x) d (drop (i * bankSize) flash) in
-        ap (take bankSize) (drop-at (take (i * bankSize) flash) (x ++ drop (i * bankSize + length x) flash) (i * bankSize) t)
-        ∙ ap (λ (k : ℕ). take k (x ++ drop (i * bankSize + length x) flash)) e
-        ∙ take-append-add x (drop (i * bankSize + length x) flash) d
-        ∙ ap (λ (y : List ℕ). x ++ take d y) (sym (drop-drop (length x) (i * bankSize) flash))
-        ∙ ap (λ (y : List ℕ). x ++ y)
-        (sym (ap (drop (length x)) b
-        ∙ drop-at (take (length x) (drop (i * bankSize) flash)) (take d (drop (length x) (drop (i * bankSize) flash))) (length x) (length-take-le (length x) (drop (i * bankSize) flash) l)))
+        let m = over j x (bankIn flash i) in
+        let l : length m ≡ bankSize = length-over j x (bankIn flash i) (omega (arith, bank-long)) ∙ bank-long in
+        ap (λ (f : List ℕ). bankIn (over at x f) i) parts
+        ∙ ap (λ (f : List ℕ). bankIn f i) (over-inside front (bankIn flash i) back (i * bankSize) j x front-long (omega (arith, bank-long)))
+        ∙ ap (take bankSize) (drop-at front (m ++ back) (i * bankSize) front-long)
+        ∙ take-at m back bankSize l
 
-    over-other : (j : ℕ) → j ≢ i → bankIn (over (i * bankSize) x flash) j ≡ bankIn flash j
+    over-other : (k : ℕ) → k ≢ i → bankIn (over at x flash) k ≡ bankIn flash k
     unfolding over
-    over-other j h = go (decLe (suc j) i)
+    over-other k h = go (decLe (suc k) i)
       where
-        t : length (take (i * bankSize) flash) ≡ i * bankSize
-        t = length-take-le (i * bankSize) flash (omega (arith, fits))
+        t : length (take at flash) ≡ at
+        t = length-take-le at flash (omega (arith, fits))
 
-        go : Dec (j < i) → bankIn (over (i * bankSize) x flash) j ≡ bankIn flash j
+        go : Dec (k < i) → bankIn (over at x flash) k ≡ bankIn flash k
         go (yes l) =
-            before (take (i * bankSize) flash) (x ++ drop (i * bankSize + length x) flash) (drop (i * bankSize) flash) (j * bankSize) bankSize
-            (omega (arith, t, mul-le-mul-right bankSize l, suc-mul j bankSize))
-            ∙ ap (λ (y : List ℕ). bankIn y j) (take-append-drop (i * bankSize) flash)
+            before (take at flash) (x ++ drop (at + length x) flash) (drop at flash) (k * bankSize) bankSize
+            (omega (arith, t, mul-le-mul-right bankSize l, suc-mul k bankSize))
+            ∙ ap (λ (y : List ℕ). bankIn y k) (take-append-drop at flash)
         go (no l) =
-            let m : suc i ≤ j = omega arith in
-            ap (take bankSize) (drop-over (i * bankSize) x flash fits (j * bankSize) (omega (arith, mul-le-mul-right bankSize m, suc-mul i bankSize)))
+            let m : suc i ≤ k = omega arith in
+            ap (take bankSize) (drop-over at x flash fits (k * bankSize) (omega (arith, mul-le-mul-right bankSize m, suc-mul i bankSize)))
 
-  -- an erase
+    over-bank : Bytes x → Bytes flash → Replaced flash (over at x flash) i (over j x (bankIn flash i))
+    over-bank b c = record { bytes = bytes-over at x flash b c; here = over-here; other = over-other; long = length-over at x flash fits }
 
-  pub erased-here : bankIn (erased (i * bankSize) flash) i ≡ blanks bankSize
-  unfolding erased
-  erased-here =
-      let l : length (blanks bankSize) ≡ bankSize = length-blanks bankSize in
-      over-here (blanks bankSize) (omega (arith, l))
-      ∙ ap (λ (y : List ℕ). blanks bankSize ++ y) (drop-of-length-le (bankIn flash i) {i = length (blanks bankSize)} (omega (arith, l, bank-long)))
-      ∙ append-nil (blanks bankSize)
-
-  pub erased-other : (j : ℕ) → j ≢ i → bankIn (erased (i * bankSize) flash) j ≡ bankIn flash j
-  unfolding erased
-  erased-other j h = over-other (blanks bankSize) (omega (arith, length-blanks bankSize)) j h
-
-  pub erased-long : length (erased (i * bankSize) flash) ≡ length flash
-  unfolding erased
-  erased-long = over-long (blanks bankSize) (omega (arith, length-blanks bankSize))
-
-  pub erased-bytes : Bytes flash → Bytes (erased (i * bankSize) flash)
-  unfolding erased
-  erased-bytes h = bytes-over (i * bankSize) (blanks bankSize) flash (bytes-ff bankSize) h
-
-  -- a write
-
-  module _ (x : List ℕ) (small : length x ≤ bankSize) where
+    -- a write
     abbrev there : List ℕ
-    there = take (length x) (drop (i * bankSize) flash)
+    there = take (length x) (drop at flash)
 
-    there-is : there ≡ take (length x) (bankIn flash i)
-    there-is = sym (take-take (length x) bankSize (drop (i * bankSize) flash) small)
+    there-is : there ≡ take (length x) (drop j (bankIn flash i))
+    there-is =
+        ap (take (length x)) (sym (drop-drop j (i * bankSize) flash) ∙ ap (drop j) (sym (take-append-drop bankSize (drop (i * bankSize) flash))))
+        ∙ before (bankIn flash i) back [] j (length x) (omega (arith, bank-long))
+        ∙ ap (λ (y : List ℕ). take (length x) (drop j y)) (append-nil (bankIn flash i))
 
     there-long : length (ands there x) ≡ length x
-    there-long =
-        length-ands there x (ap length there-is ∙ length-take-le (length x) (bankIn flash i) (omega (arith, bank-long)))
+    there-long = length-ands there x (length-take-le (length x) (drop at flash) (omega (arith, length-drop at flash, fits)))
 
-    pub written-here : bankIn (written (i * bankSize) x flash) i ≡ ands (take (length x) (bankIn flash i)) x ++ drop (length x) (bankIn flash i)
-    unfolding written
-    written-here =
-        over-here (ands there x) (omega (arith, there-long))
-        ∙ ap₂ (λ (y : List ℕ) (k : ℕ). ands y x ++ drop k (bankIn flash i)) there-is there-long
+  pub written-bank : (j : ℕ) (x : List ℕ) → j + length x ≤ bankSize → Bytes x → Bytes flash
+      → Replaced flash (written (i * bankSize + j) x flash) i (written j x (bankIn flash i))
+  unfolding written
+  written-bank j x small b c =
+      subst (λ (y : List ℕ). Replaced flash (over (i * bankSize + j) (ands (there j x small) x) flash) i (over j (ands y x) (bankIn flash i))) (there-is j x small)
+      (over-bank j (ands (there j x small) x) (omega (arith, there-long j x small)) (bytes-ands (there j x small) x b) c)
 
-    pub written-other : (j : ℕ) → j ≢ i → bankIn (written (i * bankSize) x flash) j ≡ bankIn flash j
-    unfolding written
-    written-other j h = over-other (ands there x) (omega (arith, there-long)) j h
+  -- from the bank's start on
+  pub written-start : (x : List ℕ) → length x ≤ bankSize → Bytes x → Bytes flash
+      → Replaced flash (written (i * bankSize) x flash) i (ands (take (length x) (bankIn flash i)) x ++ drop (length x) (bankIn flash i))
+  unfolding written over
+  written-start x small b c =
+      let e : i * bankSize + 0 ≡ i * bankSize = omega arith in
+      let m = bankIn flash i in
+      let l : 0 + length (ands (take (length x) m) x) ≡ length x =
+      omega (arith, length-ands (take (length x) m) x (length-take-le (length x) m (omega (arith, bank-long)))) in
+      let q : written 0 x m ≡ ands (take (length x) m) x ++ drop (length x) m = ap (λ (k : ℕ). ands (take (length x) m) x ++ drop k m) l in
+      subst (λ (o : ℕ). Replaced flash (written o x flash) i (ands (take (length x) m) x ++ drop (length x) m)) e
+      (subst (Replaced flash (written (i * bankSize + 0) x flash) i) q (written-bank 0 x (omega arith) b c))
 
-    pub written-long : length (written (i * bankSize) x flash) ≡ length flash
-    unfolding written
-    written-long = over-long (ands there x) (omega (arith, there-long))
-
-    pub written-bytes : Bytes x → Bytes flash → Bytes (written (i * bankSize) x flash)
-    unfolding written
-    written-bytes h k = bytes-over (i * bankSize) (ands there x) flash (bytes-ands there x h) k
+  -- an erase
+  pub erased-bank : Bytes flash → Replaced flash (erased (i * bankSize) flash) i (blanks bankSize)
+  unfolding erased over
+  erased-bank c =
+      let e : i * bankSize + 0 ≡ i * bankSize = omega arith in
+      let l : length (blanks bankSize) ≡ bankSize = length-blanks bankSize in
+      let m = bankIn flash i in
+      let q : over 0 (blanks bankSize) m ≡ blanks bankSize =
+      ap (λ (y : List ℕ). blanks bankSize ++ y) (drop-of-length-le m {i = 0 + length (blanks bankSize)} (omega (arith, l, bank-long))) ∙ append-nil (blanks bankSize) in
+      subst (λ (o : ℕ). Replaced flash (over o (blanks bankSize) flash) i (blanks bankSize)) e
+      (subst (Replaced flash (over (i * bankSize + 0) (blanks bankSize) flash) i) q (over-bank 0 (blanks bankSize) (omega (arith, l)) (bytes-ff bankSize) c))

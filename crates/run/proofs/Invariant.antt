@@ -18,13 +18,13 @@ use Rattle.bank.proofs.LengthLaws.{length-bank}
 use Rattle.bank.proofs.PartitionLaws.{bank-size}
 use Rattle.bank.proofs.PaddedLaws.{blanks, padded-more, take-padded, drop-padded}
 use Rattle.nvram.specs.Part.{FineSlot}
-use Rattle.nvram.specs.Book.{Book, FineBook, activeSlot, withActive, withRecords}
+use Rattle.nvram.specs.Book.{Book, FineBook, activeSlot, withBank, withActive, withRecords}
 use Rattle.nvram.specs.Commit.{moved, nextBank, nextSlot, request, movedBook, output}
 use Rattle.nvram.specs.Opening.{banksOf}
 use Rattle.nvram.proofs.LayoutLaws.{fine-at}
 use Rattle.nvram.proofs.StepLaws.{moved-fine, next-inside}
-use Rattle.run.specs.Flash.{erased, ands, written, erasedBy}
-use Rattle.run.proofs.FlashLaws.{bankIn, bank-long, ands-ff, erased-here, erased-other, erased-long, erased-bytes, written-here, written-other, written-long, written-bytes}
+use Rattle.run.specs.Flash.{ands, written, erasedBy}
+use Rattle.run.proofs.FlashLaws.{bankIn, Replaced, untouched, replaced-again, bank-long, ands-ff, erased-bank, written-start}
 use Rattle.run.proofs.ReadLaws.{padded-back}
 use Rattle.run.proofs.OutputLaws.{length-output, bytes-output, generation-below}
 use Rattle.run.proofs.ChoiceLaws.{empty-not-valid}
@@ -45,9 +45,7 @@ pub record Base (flash : List ℕ) (b : Book) : Type 0 where
       → k′ .header .generation ≤ k .header .generation
 
 -- from the first move on: the active bank's bytes are those of its header and of records that have aged into the book's
-pub record Fixed (flash : List ℕ) (b : Book) : Type 0 where
-  pub bank : Bank
-  pub at : activeSlot b ≡ valid bank
+pub record Known (flash : List ℕ) (b : Book) (bank : Bank) : Type 0 where
   pub full : bank .usable ≡ bank .header .size
   pub positive : 0 < bank .header .generation
   pub rows : List Record
@@ -57,11 +55,19 @@ pub record Fixed (flash : List ℕ) (b : Book) : Type 0 where
   pub aged : Aged rows (bank .records)
   pub under : Under flash (b .n) (b .active) (bank .header .generation)
 
+pub record Fixed (flash : List ℕ) (b : Book) : Type 0 where
+  pub bank : Bank
+  pub at : activeSlot b ≡ valid bank
+  pub known : Known flash b bank
+
+known-of : {flash : List ℕ} {b : Book} (x : Fixed flash b) (k : Bank) → activeSlot b ≡ valid k → Known flash b k
+known-of {flash = flash} {b = b} x k e = let q : x .bank ≡ k = cc (x .at, e) in subst (Known flash b) q (x .known)
+
 -- after an accepted commit: those records are the book's
 pub record Current (flash : List ℕ) (b : Book) : Type 0 where
   pub base : Base flash b
   pub fixed : Fixed flash b
-  pub now : fixed .rows ≡ fixed .bank .records
+  pub now : fixed .known .rows ≡ fixed .bank .records
 
 pub enough : (flash : List ℕ) (n : ℕ) → n ≡ banksOf flash → n * bankSize ≤ length flash
 enough flash n e =
@@ -69,20 +75,13 @@ enough flash n e =
     let m : n * bankSize ≡ n * 65536 = ap (λ (k : ℕ). n * k) bank-size in
     omega arith
 
+-- the slot read back after a store
+pub stored : (b : Book) → FineBook b → (i : ℕ) → i < b .n → (k : Bank) → activeSlot (withBank b i k) ≡ valid k
+stored b f i l k = getD-set-same (b .slots) i (valid k) invalid (omega (arith, f .long))
+
 -- a Valid slot of a fine book holds a fine bank
 pub slot-fine : (b : Book) (i : ℕ) (k : Bank) → FineBook b → getD (b .slots) i invalid ≡ valid k → FineBank k
 slot-fine b i k f e = subst FineSlot e (fine-at (b .slots) i (f .slots-fine)) .0
-
--- the flash f′ is f but for bank i, where k stands and then 0xFF
-record Placed (f f′ : List ℕ) (i : ℕ) (k : Bank) : Type 0 where
-  bytes : Bytes f′
-  here : bankIn f′ i ≡ padded bankSize (bankBytes k)
-  other : (j : ℕ) → j ≢ i → bankIn f′ j ≡ bankIn f j
-  long : length f′ ≡ length f
-
--- bank i becomes active, and holds k
-abbrev withBank : Book → ℕ → Bank → Book
-withBank b i k = record { n = b .n; active = i; slots = set (b .slots) i (valid k) }
 
 small-size : (k : Bank) → FineBank k → k .header .size ≤ bankSize
 small-size k w = omega (arith, bank-size, w .header-fine .size-high)
@@ -90,116 +89,99 @@ small-size k w = omega (arith, bank-size, w .header-fine .size-high)
 out-small : (k : Bank) → FineBank k → total k ≤ k .header .size → length (output k) ≤ bankSize
 out-small k w fits = omega (arith, length-output k (w .records-fine) fits, small-size k w)
 
--- so the book holds k in bank i
-module _ (f f′ : List ℕ) (b : Book) (i : ℕ) (k : Bank) (base : Base f b) (inside : i < b .n) (fine : FineBook (withBank b i k))
-    (full : k .usable ≡ k .header .size) (fits : total k ≤ k .header .size) (positive : 0 < k .header .generation)
-    (under : Under f (b .n) i (k .header .generation)) (placed : Placed f f′ i k) where
-  in-slot : getD (set (b .slots) i (valid k)) i invalid ≡ valid k
-  in-slot = getD-set-same (b .slots) i (valid k) invalid (omega (arith, base .fine .long))
+-- every bank of the flash but i that can be read has at most a generation
+abbrev Upto : List ℕ → ℕ → ℕ → ℕ → Type 0
+Upto flash n i g = (j : ℕ) → j < n → j ≢ i → (k : Bank) → readBank (bankIn flash j) ≡ valid k → k .header .generation ≤ g
+
+-- the book holds k in bank i, which becomes active
+module _ (f f′ : List ℕ) (b : Book) (i : ℕ) (k : Bank) (x : List ℕ) (base : Base f b) (inside : i < b .n) (fine : FineBook (withBank b i k))
+    (r : Replaced f f′ i x) where
+  in-slot : activeSlot (withBank b i k) ≡ valid k
+  in-slot = stored b (base .fine) i inside k
 
   k-fine : FineBank k
   k-fine = slot-fine (withBank b i k) i k fine in-slot
 
-  placed-under : Under f′ (b .n) i (k .header .generation)
-  placed-under j l ne k′ e = under j l ne k′ (sym (ap readBank (placed .other j ne)) ∙ e)
+  blank-there : (j : ℕ) → j < b .n → getD (set (b .slots) i (valid k)) j invalid ≡ empty → Dec (j ≡ i) → bankIn f′ j ≡ blanks bankSize
+  blank-there j l e (yes q) = absurd (empty-not-valid (sym (subst (λ (y : ℕ). getD (set (b .slots) i (valid k)) y invalid ≡ empty) q e) ∙ in-slot))
+  blank-there j l e (no ne) = r .other j ne ∙ base .blank j l (sym (getD-set-other (b .slots) i j (valid k) invalid ne) ∙ e)
 
-  reads-here : readBank (bankIn f′ i) ≡ valid (bankOf (k .header) (k .records) (k .header .size))
-  reads-here = ap readBank (placed .here) ∙ padded-back k bankSize (k-fine .header-fine) (k-fine .records-fine) fits (small-size k k-fine)
+  module _ (here : (k′ : Bank) → readBank x ≡ valid k′ → k′ .header .generation ≤ k .header .generation) (others : Upto f (b .n) i (k .header .generation)) where
+    low-there : (j : ℕ) → j < b .n → (k′ : Bank) → readBank (bankIn f′ j) ≡ valid k′ → Dec (j ≡ i) → k′ .header .generation ≤ k .header .generation
+    low-there j l k′ e (yes q) = here k′ (sym (ap readBank (ap (bankIn f′) q ∙ r .here)) ∙ e)
+    low-there j l k′ e (no ne) = others j l ne k′ (sym (ap readBank (r .other j ne)) ∙ e)
 
-  placed-blank : (j : ℕ) → j < b .n → getD (set (b .slots) i (valid k)) j invalid ≡ empty → Dec (j ≡ i) → bankIn f′ j ≡ blanks bankSize
-  placed-blank j l e (yes q) = absurd (empty-not-valid (sym (subst (λ (x : ℕ). getD (set (b .slots) i (valid k)) x invalid ≡ empty) q e) ∙ in-slot))
-  placed-blank j l e (no ne) = placed .other j ne ∙ base .blank j l (sym (getD-set-other (b .slots) i j (valid k) invalid ne) ∙ e)
+    replaced-base : Base f′ (withBank b i k)
+    replaced-base =
+        record {
+          bytes = r .bytes;
+          fine = fine;
+          count = base .count ∙ ap (λ (n : ℕ). n / bankSize) (sym (r .long));
+          most = rw (r .long) (base .most);
+          blank = λ j l e. blank-there j l e (ℕ-discrete j i);
+          low = λ k′ e j l k″ e″.
+              let same : k ≡ k′ = cc (in-slot, e) in
+              subst (λ (y : Bank). k″ .header .generation ≤ y .header .generation) same (low-there j l k″ e″ (ℕ-discrete j i));
+        }
 
-  placed-low : (j : ℕ) → j < b .n → (k′ : Bank) → readBank (bankIn f′ j) ≡ valid k′ → Dec (j ≡ i) → k′ .header .generation ≤ k .header .generation
-  placed-low j l k′ e (yes q) =
-      let same : valid (bankOf (k .header) (k .records) (k .header .size)) ≡ valid k′ = sym reads-here ∙ subst (λ (x : ℕ). readBank (bankIn f′ x) ≡ valid k′) q e in
-      let g : k′ .header .generation ≡ k .header .generation = cc in
-      omega arith
-  placed-low j l k′ e (no ne) = omega (arith, placed-under j l ne k′ e)
-
-  placed-base : Base f′ (withBank b i k)
-  placed-base =
-      record {
-        bytes = placed .bytes;
-        fine = fine;
-        count = base .count ∙ ap (λ (n : ℕ). n / bankSize) (sym (placed .long));
-        most = rw (placed .long) (base .most);
-        blank = λ j l e. placed-blank j l e (ℕ-discrete j i);
-        low = λ k′ e j l k″ e″.
-            let same : k ≡ k′ = cc (in-slot, e) in
-            subst (λ (x : Bank). k″ .header .generation ≤ x .header .generation) same (placed-low j l k″ e″ (ℕ-discrete j i));
-      }
-
+-- and the flash holds it, and then 0xFF
+module _ (f f′ : List ℕ) (b : Book) (i : ℕ) (k : Bank) (base : Base f b) (inside : i < b .n) (fine : FineBook (withBank b i k))
+    (r : Replaced f f′ i (padded bankSize (bankBytes k))) (full : k .usable ≡ k .header .size) (fits : total k ≤ k .header .size)
+    (positive : 0 < k .header .generation) (under : Under f (b .n) i (k .header .generation)) where
   current : Current f′ (withBank b i k)
   current =
+      let w = k-fine f f′ b i k _ base inside fine r in
+      let back = padded-back k bankSize (w .header-fine) (w .records-fine) fits (small-size k w) in
       record {
-        base = placed-base;
+        base =
+            replaced-base f f′ b i k _ base inside fine r
+            (λ k′ e. let same : valid (bankOf (k .header) (k .records) (k .header .size)) ≡ valid k′ = sym back ∙ e in
+            let g : k′ .header .generation ≡ k .header .generation = cc in omega arith)
+            (λ j l ne k′ e. omega (arith, under j l ne k′ e));
         fixed = record {
           bank = k;
-          at = in-slot;
-          full = full;
-          positive = positive;
-          rows = k .records;
-          rows-fine = k-fine .records-fine;
-          rows-fit = fits;
-          there = placed .here;
-          aged = aged-refl (k .records);
-          under = placed-under;
+          at = in-slot f f′ b i k _ base inside fine r;
+          known = record {
+            full = full;
+            positive = positive;
+            rows = k .records;
+            rows-fine = w .records-fine;
+            rows-fit = fits;
+            there = r .here;
+            aged = aged-refl (k .records);
+            under = λ j l ne k′ e. under j l ne k′ (sym (ap readBank (r .other j ne)) ∙ e);
+          };
         };
         now = refl;
       }
 
--- a write that comes out as it is
+-- a write over x that comes out as it is
 module _ (f g : List ℕ) (n i : ℕ) (k : Bank) (inside : i < n) (long : n * bankSize ≤ length g) (w : FineBank k) (fits : total k ≤ k .header .size) where
   abbrev out : List ℕ
   out = output k
 
-  small : length out ≤ bankSize
-  small = out-small k w fits
-
-  written-whole : Bytes g → ((j : ℕ) → j ≢ i → bankIn g j ≡ bankIn f j) → length g ≡ length f
-      → ands (take (length out) (bankIn g i)) out ≡ out
-      → drop (length out) (bankIn g i) ≡ blanks (bankSize - length out)
-      → Placed f (written (i * bankSize) out g) i k
+  written-whole : (x : List ℕ) → Replaced f g i x → ands (take (length out) x) out ≡ out → drop (length out) x ≡ blanks (bankSize - length out)
+      → Replaced f (written (i * bankSize) out g) i (padded bankSize (bankBytes k))
   unfolding output
-  written-whole bytes other same p q =
-      record {
-        bytes = written-bytes g n i inside long out small (bytes-output k (w .header-fine) (w .records-fine)) bytes;
-        here =
-            written-here g n i inside long out small ∙ ap₂ (λ (x y : List ℕ). x ++ y) p (q ∙ ap (λ (m : ℕ). blanks (bankSize - m)) (length-output k (w .records-fine) fits))
-            ∙ sym (padded-more (bankBytes k) (k .header .size) bankSize (omega (arith, length-bank k (w .records-fine))) (small-size k w));
-        other = λ j ne. written-other g n i inside long out small j ne ∙ other j ne;
-        long = written-long g n i inside long out small ∙ same;
-      }
-
--- a move
-
--- g is f with bank i all 0xFF
-record Clear (f g : List ℕ) (i : ℕ) : Type 0 where
-  bytes : Bytes g
-  here : bankIn g i ≡ blanks bankSize
-  other : (j : ℕ) → j ≢ i → bankIn g j ≡ bankIn f j
-  long : length g ≡ length f
+  written-whole x r p q =
+      let whole : ands (take (length out) (bankIn g i)) out ++ drop (length out) (bankIn g i) ≡ padded bankSize (bankBytes k) =
+      ap (λ (y : List ℕ). ands (take (length out) y) out ++ drop (length out) y) (r .here)
+      ∙ ap₂ (λ (y z : List ℕ). y ++ z) p (q ∙ ap (λ (m : ℕ). blanks (bankSize - m)) (length-output k (w .records-fine) fits))
+      ∙ sym (padded-more (bankBytes k) (k .header .size) bankSize (omega (arith, length-bank k (w .records-fine))) (small-size k w)) in
+      subst (Replaced f (written (i * bankSize) out g) i) whole
+      (replaced-again r (written-start g n i inside long out (out-small k w fits) (bytes-output k (w .header-fine) (w .records-fine)) (r .bytes)))
 
 module _ (f : List ℕ) (b : Book) (base : Base f b) where
   room : b .n * bankSize ≤ length f
   room = enough f (b .n) (base .count)
 
-  module _ (i : ℕ) (inside : i < b .n) where
-    cleared : Clear f (erased (i * bankSize) f) i
-    cleared =
-        record {
-          bytes = erased-bytes f (b .n) i inside room (base .bytes);
-          here = erased-here f (b .n) i inside room;
-          other = erased-other f (b .n) i inside room;
-          long = erased-long f (b .n) i inside room;
-        }
+  -- a move
 
-    clear : (s : Slot) → getD (b .slots) i invalid ≡ s → Clear f (erasedBy (request s i) f) i
-    unfolding request
-    clear empty e = record { bytes = base .bytes; here = base .blank i inside e; other = λ j ne. refl; long = refl }
-    clear invalid e = cleared
-    clear (valid k) e = cleared
+  clear : (i : ℕ) → i < b .n → (s : Slot) → getD (b .slots) i invalid ≡ s → Replaced f (erasedBy (request s i) f) i (blanks bankSize)
+  unfolding request
+  clear i inside empty e = subst (Replaced f f i) (base .blank i inside e) (untouched f i (base .bytes))
+  clear i inside invalid e = erased-bank f (b .n) i inside room (base .bytes)
+  clear i inside (valid k) e = erased-bank f (b .n) i inside room (base .bytes)
 
   module _ (k : Bank) (e : activeSlot b ≡ valid k) where
     w : FineBank k
@@ -213,25 +195,33 @@ module _ (f : List ℕ) (b : Book) (base : Base f b) where
       unfolding total liveTotal
       new-fits = fits
 
-      move-placed : Placed f (written (nextBank b * bankSize) (output (moved k)) g) (nextBank b) (moved k)
+      move-placed : Replaced f (written (nextBank b * bankSize) (output (moved k)) g) (nextBank b) (padded bankSize (bankBytes (moved k)))
       move-placed =
-          let c = clear (nextBank b) (next-inside b (base .fine)) (nextSlot b) refl in
-          let v = moved-fine k w left in
           let inside = next-inside b (base .fine) in
+          let c = clear (nextBank b) inside (nextSlot b) refl in
+          let v = moved-fine k w left in
           let long : b .n * bankSize ≤ length g = omega (arith, room, c .long) in
           let x = output (moved k) in
           let fits-bank = out-small (moved k) v new-fits in
-          written-whole f g (b .n) (nextBank b) (moved k) inside long v new-fits (c .bytes) (c .other) (c .long)
-          (ap (λ (y : List ℕ). ands (take (length x) y) x) (c .here) ∙ ap (λ (y : List ℕ). ands y x) (take-replicate (length x) bankSize 255 fits-bank)
-          ∙ ands-ff x (bytes-output (moved k) (v .header-fine) (v .records-fine)))
-          (ap (drop (length x)) (c .here) ∙ drop-replicate (length x) bankSize 255 fits-bank)
+          written-whole f g (b .n) (nextBank b) (moved k) inside long v new-fits (blanks bankSize) c
+          (ap (λ (y : List ℕ). ands y x) (take-replicate (length x) bankSize 255 fits-bank) ∙ ands-ff x (bytes-output (moved k) (v .header-fine) (v .records-fine)))
+          (drop-replicate (length x) bankSize 255 fits-bank)
 
       pub move-current : Current (written (nextBank b * bankSize) (output (moved k)) g) (movedBook b k)
       move-current =
-          current f (written (nextBank b * bankSize) (output (moved k)) g) b (nextBank b) (moved k) base (next-inside b (base .fine)) fine refl new-fits
-          (omega arith) (λ j l ne k′ q. omega (arith, base .low k e j l k′ q)) move-placed
+          current f (written (nextBank b * bankSize) (output (moved k)) g) b (nextBank b) (moved k) base (next-inside b (base .fine)) fine move-placed refl new-fits
+          (omega arith) (λ j l ne k′ q. omega (arith, base .low k e j l k′ q))
 
     -- a write in place
+
+    with-active : withActive b k ≡ b
+    with-active =
+        let q : set (b .slots) (b .active) (valid k) ≡ b .slots =
+        ap (λ (s : Slot). set (b .slots) (b .active) s) (sym e) ∙ set-getD (b .slots) (b .active) invalid in
+        ap (λ (ss : List Slot). record { n = b .n; active = b .active; slots = ss }) q
+
+    with-fine : FineBook (withActive b k)
+    with-fine = subst FineBook (sym with-active) (base .fine)
 
     module _ (fits : total k ≤ k .usable) where
       in-size : total k ≤ k .header .size
@@ -240,125 +230,78 @@ module _ (f : List ℕ) (b : Book) (base : Base f b) where
       fits-bank : length (output k) ≤ bankSize
       fits-bank = out-small k w in-size
 
-      abbrev new : List ℕ
+      abbrev pub new : List ℕ
       new = written (b .active * bankSize) (output k) f
 
-      new-long : length new ≡ length f
-      new-long = written-long f (b .n) (b .active) (base .fine .inside) room (output k) fits-bank
+      abbrev mixed : List ℕ
+      mixed = ands (take (length (output k)) (bankIn f (b .active))) (output k) ++ drop (length (output k)) (bankIn f (b .active))
 
-      new-other : (j : ℕ) → j ≢ b .active → bankIn new j ≡ bankIn f j
-      new-other = written-other f (b .n) (b .active) (base .fine .inside) room (output k) fits-bank
-
-      write-blank : (j : ℕ) → j < b .n → getD (b .slots) j invalid ≡ empty → Dec (j ≡ b .active) → bankIn new j ≡ blanks bankSize
-      write-blank j l q (yes r) = absurd (empty-not-valid (sym (subst (λ (x : ℕ). getD (b .slots) x invalid ≡ empty) r q) ∙ e))
-      write-blank j l q (no ne) = new-other j ne ∙ base .blank j l q
+      write-placed : Replaced f new (b .active) mixed
+      write-placed =
+          written-start f (b .n) (b .active) (base .fine .inside) room (output k) fits-bank (bytes-output k (w .header-fine) (w .records-fine)) (base .bytes)
 
       -- over bytes that are not known, an AND cannot raise the generation
-      active-low : (k′ : Bank) → readBank (bankIn new (b .active)) ≡ valid k′ → k′ .header .generation ≤ k .header .generation
-      active-low k′ q =
-          let long : length (output k) ≡ k .header .size = length-output k (w .records-fine) in-size in
-          generation-below k k′ (take (length (output k)) (bankIn f (b .active))) (drop (length (output k)) (bankIn f (b .active))) (w .header-fine .generation-fits)
-          (length-take-le (length (output k)) (bankIn f (b .active)) (omega (arith, fits-bank, bank-long f (b .n) (b .active) (base .fine .inside) room)))
-          (omega (arith, long, w .header-fine .size-low))
-          (sym (ap readBank (written-here f (b .n) (b .active) (base .fine .inside) room (output k) fits-bank)) ∙ q)
-
-      write-low : (j : ℕ) → j < b .n → (k′ : Bank) → readBank (bankIn new j) ≡ valid k′ → Dec (j ≡ b .active) → k′ .header .generation ≤ k .header .generation
-      write-low j l k′ q (yes r) = active-low k′ (subst (λ (x : ℕ). readBank (bankIn new x) ≡ valid k′) r q)
-      write-low j l k′ q (no ne) = base .low k e j l k′ (sym (ap readBank (new-other j ne)) ∙ q)
-
       pub write-base : Base new b
       write-base =
+          let long : length (output k) ≡ k .header .size = length-output k (w .records-fine) in-size in
+          subst (Base new) with-active
+          (replaced-base f new b (b .active) k mixed base (base .fine .inside) with-fine write-placed
+          (λ k′ q. generation-below k k′ (take (length (output k)) (bankIn f (b .active))) (drop (length (output k)) (bankIn f (b .active))) (w .header-fine .generation-fits)
+          (length-take-le (length (output k)) (bankIn f (b .active)) (omega (arith, fits-bank, bank-long f (b .n) (b .active) (base .fine .inside) room)))
+          (omega (arith, long, w .header-fine .size-low)) q)
+          (λ j l ne k′ q. base .low k e j l k′ q))
+
+      -- after the first move the bytes are known
+      module _ (x : Known f b k) where
+        abbrev old : Bank
+        old = withRecords k (x .rows)
+
+        old-long : length (bankBytes old) ≤ length (output k)
+        old-long = omega (arith, length-bank old (x .rows-fine), x .rows-fit, length-output k (w .records-fine) in-size)
+
+        write-known : Replaced f new (b .active) (padded bankSize (bankBytes k))
+        unfolding output
+        write-known =
+            written-whole f f (b .n) (b .active) k (base .fine .inside) room w in-size (padded bankSize (bankBytes old))
+            (subst (Replaced f f (b .active)) (x .there) (untouched f (b .active) (base .bytes)))
+            (ap (λ (y : List ℕ). ands y (output k)) (take-padded (bankBytes old) (length (output k)) bankSize old-long fits-bank)
+            ∙ ap (λ (m : ℕ). ands (padded m (bankBytes old)) (output k)) (length-output k (w .records-fine) in-size)
+            ∙ ands-output k (x .rows) (w .header-fine) (w .records-fine) (x .rows-fine) in-size (x .rows-fit) (x .aged))
+            (drop-padded (bankBytes old) (length (output k)) bankSize old-long fits-bank)
+
+        write-now : Current new b
+        write-now =
+            subst (Current new) with-active
+            (current f new b (b .active) k base (base .fine .inside) with-fine write-known (x .full) in-size (x .positive) (x .under))
+
+      pub write-current : Fixed f b → Current new b
+      write-current x = write-now (known-of x k e)
+
+    -- an edit
+
+    module _ (rows : List Record) (fine : FineBook (withActive b (withRecords k rows))) where
+      abbrev edited : Bank
+      edited = withRecords k rows
+
+      pub edit-base : Base f (withActive b edited)
+      edit-base =
+          replaced-base f f b (b .active) edited (bankIn f (b .active)) base (base .fine .inside) fine (untouched f (b .active) (base .bytes))
+          (λ k′ q. base .low k e (b .active) (base .fine .inside) k′ q) (λ j l ne k′ q. base .low k e j l k′ q)
+
+      pub edit-fixed : Aged (k .records) rows → Fixed f b → Fixed f (withActive b edited)
+      edit-fixed a x =
+          let y = known-of x k e in
           record {
-            bytes = written-bytes f (b .n) (b .active) (base .fine .inside) room (output k) fits-bank
-                (bytes-output k (w .header-fine) (w .records-fine)) (base .bytes);
-            fine = base .fine;
-            count = base .count ∙ ap (λ (n : ℕ). n / bankSize) (sym new-long);
-            most = rw new-long (base .most);
-            blank = λ j l q. write-blank j l q (ℕ-discrete j (b .active));
-            low = λ k′ e′ j l k″ q.
-                let same : k ≡ k′ = cc (e, e′) in
-                subst (λ (x : Bank). k″ .header .generation ≤ x .header .generation) same (write-low j l k″ q (ℕ-discrete j (b .active)));
+            bank = edited;
+            at = in-slot f f b (b .active) edited (bankIn f (b .active)) base (base .fine .inside) fine (untouched f (b .active) (base .bytes));
+            known = record {
+              full = y .full;
+              positive = y .positive;
+              rows = y .rows;
+              rows-fine = y .rows-fine;
+              rows-fit = y .rows-fit;
+              there = y .there;
+              aged = aged-trans (y .aged) a;
+              under = y .under;
+            };
           }
-
-  -- after the first move the bytes are known
-  with-active : (k : Bank) → activeSlot b ≡ valid k → withBank b (b .active) k ≡ b
-  with-active k e =
-      let q : set (b .slots) (b .active) (valid k) ≡ b .slots =
-      ap (λ (s : Slot). set (b .slots) (b .active) s) (sym e) ∙ set-getD (b .slots) (b .active) invalid in
-      ap (λ (ss : List Slot). record { n = b .n; active = b .active; slots = ss }) q
-
-  module _ (x : Fixed f b) (fits : total (x .bank) ≤ x .bank .usable) where
-    abbrev k : Bank
-    k = x .bank
-
-    abbrev old : Bank
-    old = withRecords (x .bank) (x .rows)
-
-    x-fine : FineBank k
-    x-fine = slot-fine b (b .active) k (base .fine) (x .at)
-
-    x-fits : total k ≤ k .header .size
-    x-fits = omega (arith, x-fine .usable-high)
-
-    old-long : length (bankBytes old) ≤ length (output k)
-    old-long = omega (arith, length-bank old (x .rows-fine), x .rows-fit, length-output k (x-fine .records-fine) x-fits)
-
-    write-placed : Placed f (written (b .active * bankSize) (output k) f) (b .active) k
-    unfolding output
-    write-placed =
-        let l : length (output k) ≡ k .header .size = length-output k (x-fine .records-fine) x-fits in
-        written-whole f f (b .n) (b .active) k (base .fine .inside) room x-fine x-fits (base .bytes) (λ j ne. refl) refl
-        (ap (λ (y : List ℕ). ands (take (length (output k)) y) (output k)) (x .there)
-        ∙ ap (λ (y : List ℕ). ands y (output k)) (take-padded (bankBytes old) (length (output k)) bankSize old-long (out-small k x-fine x-fits))
-        ∙ ap (λ (m : ℕ). ands (padded m (bankBytes old)) (output k)) l
-        ∙ ands-output k (x .rows) (x-fine .header-fine) (x-fine .records-fine) (x .rows-fine) x-fits (x .rows-fit) (x .aged))
-        (ap (drop (length (output k))) (x .there) ∙ drop-padded (bankBytes old) (length (output k)) bankSize old-long (out-small k x-fine x-fits))
-
-    pub write-current : Current (written (b .active * bankSize) (output k) f) b
-    write-current =
-        subst (Current (written (b .active * bankSize) (output k) f)) (with-active k (x .at))
-        (current f (written (b .active * bankSize) (output k) f) b (b .active) k base (base .fine .inside)
-        (subst FineBook (sym (with-active k (x .at))) (base .fine)) (x .full) x-fits (x .positive) (x .under) write-placed)
-
-  -- an edit
-
-  module _ (k : Bank) (rows : List Record) (e : activeSlot b ≡ valid k) (fine : FineBook (withActive b (withRecords k rows))) where
-    abbrev edited : Bank
-    edited = withRecords k rows
-
-    edit-slot : activeSlot (withActive b edited) ≡ valid edited
-    edit-slot = getD-set-same (b .slots) (b .active) (valid edited) invalid (omega (arith, base .fine .long, base .fine .inside))
-
-    edit-blank : (j : ℕ) → j < b .n → getD (set (b .slots) (b .active) (valid edited)) j invalid ≡ empty → Dec (j ≡ b .active) → bankIn f j ≡ blanks bankSize
-    edit-blank j l q (yes r) =
-        absurd (empty-not-valid (sym (subst (λ (i : ℕ). getD (set (b .slots) (b .active) (valid edited)) i invalid ≡ empty) r q) ∙ edit-slot))
-    edit-blank j l q (no ne) = base .blank j l (sym (getD-set-other (b .slots) (b .active) j (valid edited) invalid ne) ∙ q)
-
-    pub edit-base : Base f (withActive b edited)
-    edit-base =
-        record {
-          bytes = base .bytes;
-          fine = fine;
-          count = base .count;
-          most = base .most;
-          blank = λ j l q. edit-blank j l q (ℕ-discrete j (b .active));
-          low = λ k′ e′ j l k″ q.
-              let same : edited ≡ k′ = cc (edit-slot, e′) in
-              subst (λ (x : Bank). k″ .header .generation ≤ x .header .generation) same (base .low k e j l k″ q);
-        }
-
-    pub edit-fixed : Aged (k .records) rows → Fixed f b → Fixed f (withActive b edited)
-    edit-fixed a x =
-        let q : x .bank ≡ k = cc (x .at, e) in
-        record {
-          bank = edited;
-          at = edit-slot;
-          full = subst (λ (y : Bank). y .usable ≡ y .header .size) q (x .full);
-          positive = subst (λ (y : Bank). 0 < y .header .generation) q (x .positive);
-          rows = x .rows;
-          rows-fine = x .rows-fine;
-          rows-fit = subst (λ (y : Bank). total (withRecords y (x .rows)) ≤ y .header .size) q (x .rows-fit);
-          there = subst (λ (y : Bank). bankIn f (b .active) ≡ padded bankSize (bankBytes (withRecords y (x .rows)))) q (x .there);
-          aged = aged-trans (subst (λ (y : Bank). Aged (x .rows) (y .records)) q (x .aged)) a;
-          under = subst (λ (y : Bank). Under f (b .n) (b .active) (y .header .generation)) q (x .under);
-        }

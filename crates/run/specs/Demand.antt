@@ -14,7 +14,7 @@ use Rattle.nvram.specs.Opening.{opening, opened}
 use Rattle.nvram.specs.Call.{lookup, fetch, committed, number, erase, step}
 use Rattle.nvram.specs.Contract.{begun, call}
 use Rattle.run.specs.Flash.{carriedOut}
-use Rattle.run.specs.Run.{Opens, Event, Run, Never, openedBook, Page, pages}
+use Rattle.run.specs.Run.{Opens, Event, Run, openedBook, Page, pages, Each, Never}
 use Rattle.run.specs.Wear.{activeSize, mostLive, insertedBytes, requests}
 
 -- the answers: number, found or none, place, length, value, erase request, write offset, length and bytes, joined bytes
@@ -47,10 +47,6 @@ pub record Reopens (flash : List ℕ) (p : Page) : Type 0 where
       → (let x = begun (opening flash (length work)) work in call (fetch key typ) (x .state) (x .work) .out)
       ≡ call (fetch key typ) (p .event .state) (p .event .work) .out
 
--- what holds of each page, given the pages before it
-abbrev pub Each : List Page → (List Page → Page → Type 0) → Type 0
-Each ps P = (earlier : List Page) (p : Page) (later : List Page) → ps ≡ earlier ++ (p ∷ later) → P earlier p
-
 module _ (image : List ℕ) where
   -- the number of banks, and the size in the header of the book's active bank
   abbrev n : ℕ
@@ -80,5 +76,5 @@ module _ (image : List ℕ) where
 -- an accepted opening, a list of calls, and none of them refused by 12
 abbrev pub Claim : Type 0
 Claim =
-    (image work : List ℕ) (s : Nvram) (w : List ℕ) (es : List Event) → Opens image work s w → Run s w es → Never 12 es
-    → Demand3 image (pages (openedBook image) es)
+    (image work : List ℕ) (s : Nvram) (w : List ℕ) (es : List Event) → Opens image work s w → Run s w es
+    → (let ps = pages (openedBook image) es in Never 12 ps → Demand3 image ps)

@@ -3,7 +3,7 @@
 use Prim.Native.Nat.{ℕ}
 use mathlib.Core.Path.{_≡_}
 use mathlib.Core.Logic.{_≢_}
-use mathlib.Core.List.{List, [], _∷_}
+use mathlib.Core.List.{List, [], _∷_, _++_}
 use lib.ListN.{length}
 use Rattle.crc32.specs.Crc32.{Bytes}
 use Rattle.nvram.specs.declared.state.Nvram.{Nvram}
@@ -32,11 +32,6 @@ abbrev pub Run : Nvram → List ℕ → List Event → Type 0
 Run s w [] = Unit {0}
 Run s w (e ∷ es) = ByteCall (e .call) × Does (e .call) s w (e .answer) (e .out) (e .state) (e .work) × Run (e .state) (e .work) es
 
--- no call is refused by a number
-abbrev pub Never : ℕ → List Event → Type 0
-Never n [] = Unit {0}
-Never n (e ∷ es) = (number (e .answer) ≢ n) × Never n es
-
 -- the book at first: what Opening gives by the definition of the bank
 abbrev pub openedBook : List ℕ → Book
 openedBook image = bookOf (readSlots (banksOf image) image) (banksOf image)
@@ -50,3 +45,11 @@ pub record Page : Type 0 where
 unfoldable pub pages : Book → List Event → List Page
 pages b [] = []
 pages b (e ∷ es) = record { before = b; event = e; after = step b (e .call) .after } ∷ pages (step b (e .call) .after) es
+
+-- what holds of each page, given the pages before it
+abbrev pub Each : List Page → (List Page → Page → Type 0) → Type 0
+Each ps P = (earlier : List Page) (p : Page) (later : List Page) → ps ≡ earlier ++ (p ∷ later) → P earlier p
+
+-- no call is refused by a number
+abbrev pub Never : ℕ → List Page → Type 0
+Never n ps = Each ps (λ earlier p. number (p .event .answer) ≢ n)

@@ -2,12 +2,11 @@
 use Prim.Native.Nat.{ℕ, zero, suc, _+_, max}
 use mathlib.Core.List.{List, [], _∷_}
 use mathlib.Core.Option.{Option, none, some}
-use Rattle.bank.specs.Record.{sizeOf}
 use Rattle.bank.specs.Bank.{Slot, empty, invalid, valid}
 use Rattle.bank.specs.Figures.{liveTotal}
-use Rattle.nvram.specs.Edit.{fresh}
+use Rattle.nvram.specs.Edit.{grows}
 use Rattle.nvram.specs.Book.{Book, activeSlot, slotSize}
-use Rattle.nvram.specs.Call.{Call, insert, remove, lookup, fetch, commit, wholeImage, number, erase}
+use Rattle.nvram.specs.Call.{Call, edit, lookup, fetch, commit, wholeImage, number, erase}
 use Rattle.run.specs.Run.{Page}
 
 -- S: the size in the header of the book's active bank
@@ -21,8 +20,7 @@ slotLive invalid = 0
 slotLive (valid k) = liveTotal k
 
 abbrev pub liveAt : Book → Call → ℕ
-liveAt b (insert key value typ) = 0
-liveAt b (remove key typ) = 0
+liveAt b (edit e) = 0
 liveAt b (lookup key typ) = 0
 liveAt b (fetch key typ) = 0
 liveAt b (commit room) = slotLive (activeSlot b)
@@ -33,11 +31,10 @@ unfoldable pub mostLive : List Page → ℕ
 mostLive [] = 0
 mostLive (p ∷ ps) = max (liveAt (p .before) (p .event .call)) (mostLive ps)
 
--- the record size of an insert that is accepted
+-- what a call with this number adds: the record size of an insert that is accepted
 abbrev pub added : Call → ℕ → ℕ
-added (insert key value typ) zero = sizeOf (fresh key value typ)
-added (insert key value typ) (suc k) = 0
-added (remove key typ) k = 0
+added (edit e) zero = grows e
+added (edit e) (suc k) = 0
 added (lookup key typ) k = 0
 added (fetch key typ) k = 0
 added (commit room) k = 0

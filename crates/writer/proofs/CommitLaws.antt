@@ -5,6 +5,7 @@ use mathlib.Core.List.{List, [], _++_, append-assoc}
 use mathlib.Core.Bool.{Bool, true, false, true≢false}
 use mathlib.Core.Option.{Option, none, some}
 use native.Mathlib.Omega.{arith}
+use lib.Dec.{ltb}
 use lib.ListN.{length, getD, take, drop, length-drop}
 use lib.Seq.{take-at, drop-at, length-take-le}
 use borrow.Author.Tests.{lt-ltb, le-ltb}
@@ -14,24 +15,25 @@ use Rattle.bank.specs.declared.header.StoreHeader.{StoreHeader}
 use Rattle.bank.specs.declared.header.Head.{Head}
 use Rattle.bank.specs.declared.header.Head.the-variants.{Good, Signature, Version, Size}
 use Rattle.bank.specs.Header.{readHeader, headerBytes}
-use Rattle.bank.specs.Bank.{Bank, Slot, empty, invalid, valid, bankSize, partOf}
-use Rattle.bank.specs.Figures.{total, systemUsed, commonUsed}
+use Rattle.bank.specs.Bank.{Bank, Slot, invalid, valid, bankSize, partOf}
+use Rattle.bank.specs.Record.{sizes}
+use Rattle.bank.specs.Figures.{total}
 use Rattle.bank.proofs.HeaderLaws.{header-back}
 use Rattle.nvram.specs.declared.figures.Figures.{Figures}
 use Rattle.nvram.specs.declared.records.Checked.{Checked}
 use Rattle.nvram.specs.declared.state.Kind.the-variants.{Valid}
 use Rattle.nvram.specs.declared.state.Entry.{Entry}
 use Rattle.nvram.specs.declared.state.Nvram.{Nvram}
-use Rattle.nvram.specs.Part.{partSize, entryOf}
+use Rattle.nvram.specs.Part.{partSize}
 use Rattle.nvram.specs.Book.{Book, activeSlot}
 use Rattle.nvram.specs.Figures.{figuresOf}
 use Rattle.nvram.specs.Checked.{checked, recordsFigures, slotFigures, activeFigures}
 use Rattle.nvram.specs.Ready.{activeEntry}
-use Rattle.nvram.specs.Commit.{Judged, refuse, inPlace, move, judge, output}
-use Rattle.nvram.specs.Call.{commit, committed, stay, hand, commitAs, commitIn, commitTo, step}
+use Rattle.nvram.specs.Commit.{Judged, refuse, inPlace, move, judge, due, judgeBank, output}
+use Rattle.nvram.specs.Call.{commit, committed, hand, bySlot, commitAs, commitBank, commitTo, step}
 use Rattle.nvram.specs.Contract.{Does}
 use Rattle.nvram.proofs.SlotLaws.{part-is}
-use Rattle.nvram.proofs.CallLaws.{does}
+use Rattle.nvram.proofs.CallLaws.{does, by-7, by-valid}
 use Rattle.nvram.proofs.ActiveLaws.{Sound, book, viewed, state-is, work-is, fine, active-is, n-is, entry-is, does-refuse, bank, bank-is, bank-fine, total-is, usable-is}
 use Rattle.nvram.proofs.JudgeLaws.{in-place-fits}
 use Rattle.writer.specs.declared.commit.Applied.{Applied}
@@ -75,15 +77,9 @@ module _ {s : Nvram} {w : List ℕ} (g : Sound s w) (v : activeEntry s .kind ≡
 
 -- the refusals before that
 
-enough : (b : Book) (room : ℕ) → 65536 ≤ room → step b (commit room) ≡ commitIn b (activeSlot b)
+enough : (b : Book) (room : ℕ) → 65536 ≤ room → step b (commit room) ≡ bySlot b (commit room) (commitBank b) (activeSlot b)
 unfolding step commitTo bankSize
 enough b room h = simp (le-ltb room 65536 h)
-
-commit-7 : (b : Book) (x : Slot) → (entryOf x .kind ≡ Valid → ⊥) → commitIn b x ≡ stay b (committed 7 none 0 0)
-unfolding commitIn entryOf
-commit-7 b empty e = refl
-commit-7 b invalid e = refl
-commit-7 b (valid k) e = absurd (e refl)
 
 module _ {s : Nvram} {w : List ℕ} (g : Sound s w) (room : ℕ) where
   pub does-5 : room < 65536 → Does (commit room) s w (committed 5 none 0 0) [] s w
@@ -93,7 +89,7 @@ module _ {s : Nvram} {w : List ℕ} (g : Sound s w) (room : ℕ) where
   pub does-7 : 65536 ≤ room → (activeEntry s .kind ≡ Valid → ⊥) → Does (commit room) s w (committed 7 none 0 0) [] s w
   does-7 h v =
       does-refuse g (commit room) 7
-      (enough (book g) room h ∙ commit-7 (book g) (activeSlot (book g)) (λ e. v (ap (λ (x : Entry). x .kind) (entry-is g) ∙ e)))
+      (enough (book g) room h ∙ by-7 (book g) (commit room) _ (activeSlot (book g)) (λ e. v (ap (λ (x : Entry). x .kind) (entry-is g) ∙ e)))
 
 -- what is known when a commit of the active bank begins
 pub record Known (s : Nvram) (w : List ℕ) (h : StoreHeader) : Type 0 where
@@ -121,32 +117,33 @@ module _ {s : Nvram} {w : List ℕ} {h : StoreHeader} (a : Known s w h) where
   size-high = omega (arith, size-is, bank-fine sound (a .active .kind) .0 .header-fine .size-high)
 
   -- what the code judges is the active bank
-  pub judged : (f : Figures) (t u : ℕ) (j : Judged) → Used s w f → t ≡ activeEntry s .total → u ≡ activeEntry s .usable
-      → ((k : Bank) → h ≡ k .header → f .system ≡ systemUsed k → f .common ≡ commonUsed k → t ≡ total k → u ≡ k .usable → j ≡ judge k)
-      → j ≡ judge here
-  unfolding systemUsed commonUsed total figuresOf
-  judged f t u j d p q k =
-      let e = d b here (viewed sound) (bank-is sound (a .active .kind)) in
-      k here header-is (ap (λ (x : Figures). x .system) e) (ap (λ (x : Figures). x .common) e) (p ∙ total-is sound (a .active .kind)) (q ∙ usable-is sound (a .active .kind))
+  pub judged : (f : Figures) (d : Bool) (j : Judged) → Used s w f → d ≡ ltb (activeEntry s .usable) (activeEntry s .total)
+      → j ≡ judge h (f .system) (f .common) d
+      → j ≡ judgeBank here
+  unfolding judgeBank due total
+  judged f d j u q k =
+      let e = u b here (viewed sound) (bank-is sound (a .active .kind)) in
+      let r : d ≡ ltb (here .usable) (24 + sizes (here .records)) = q ∙ ap₂ ltb (usable-is sound (a .active .kind)) (total-is sound (a .active .kind)) in
+      k ∙ (λ i. judge (header-is i) (e i .system) (e i .common) (r i))
 
-  pub due : move ≡ judge here → MoveDue s w
-  due e c k p q =
+  pub move-due : move ≡ judgeBank here → MoveDue s w
+  move-due e c k p q =
       let x : some c ≡ some b = sym p ∙ viewed sound in
       let y : c ≡ b = cc in
       let z : valid k ≡ valid here = sym q ∙ ap activeSlot y ∙ bank-is sound (a .active .kind) in
       let u : k ≡ here = cc in
-      ap judge u ∙ sym e
+      ap judgeBank u ∙ sym e
 
   module _ (room : ℕ) (wide : 65536 ≤ room) where
-    pub commit-step : step b (commit room) ≡ commitAs b here (judge here)
-    unfolding commitIn
-    commit-step = enough b room wide ∙ ap (commitIn b) (bank-is sound (a .active .kind))
+    pub commit-step : step b (commit room) ≡ commitAs b here (judgeBank here)
+    unfolding commitBank
+    commit-step = enough b room wide ∙ by-valid b (commit room) (commitBank b) here (bank-is sound (a .active .kind))
 
-    pub refuses : (n : ℕ) → refuse n ≡ judge here → Does (commit room) s w (committed n none 0 0) [] s w
+    pub refuses : (n : ℕ) → refuse n ≡ judgeBank here → Does (commit room) s w (committed n none 0 0) [] s w
     unfolding commitAs
     refuses n e = does-refuse sound (commit room) n (commit-step ∙ ap (commitAs b here) (sym e))
 
-    pub stays : inPlace ≡ judge here → Does (commit room) s w (committed 0 none (s .active * 65536) (h .size)) (take (h .size) (drop (s .active * 131072) w)) s w
+    pub stays : inPlace ≡ judgeBank here → Does (commit room) s w (committed 0 none (s .active * 65536) (h .size)) (take (h .size) (drop (s .active * 131072) w)) s w
     unfolding commitAs bankSize
     stays e =
         let f = bank-fine sound (a .active .kind) .0 in

@@ -23,9 +23,10 @@ use Rattle.nvram.specs.Records.{Holds}
 use Rattle.nvram.specs.Book.{Book}
 use Rattle.nvram.specs.Layout.{layTable, layState, layParts, layWork}
 use Rattle.nvram.specs.Ready.{activeEntry}
-use Rattle.nvram.specs.Commit.{move, judge, raised, moved, nextBank, nextSlot, request, movedBook}
+use Rattle.nvram.specs.Commit.{move, judgeBank, raised, moved, nextBank, nextSlot, request, movedBook}
 use Rattle.nvram.specs.Call.{commit, committed, moves, overflows, moveIn, commitAs, step}
-use Rattle.nvram.specs.Contract.{tallied, Does}
+use Rattle.nvram.specs.Tally.{counted}
+use Rattle.nvram.specs.Contract.{Does}
 use Rattle.nvram.proofs.RecordLists.{sizes-select}
 use Rattle.nvram.proofs.SlotLaws.{part-size, slot-length}
 use Rattle.nvram.proofs.LayoutLaws.{table-at, table-set}
@@ -98,7 +99,7 @@ module _ {s : Nvram} {w : List ℕ} {h : StoreHeader} {from to : ℕ} (m : Movin
         apart = elsewhere;
       }
 
-  judged-move : judge k ≡ move
+  judged-move : judgeBank k ≡ move
   judged-move = m .due b k (viewed g) (bank-is g v)
 
   pub may-raise : h .generation < 4294967295
@@ -158,14 +159,14 @@ module _ {s : Nvram} {w : List ℕ} {h : StoreHeader} {from to : ℕ} (m : Movin
     unfolding movedState
     new-active = ap (λ (x : Nvram). x .active) (l .state)
 
-    new-state : s′ ≡ layState (movedBook b k) (tallied (s .tally) e)
+    new-state : s′ ≡ layState (movedBook b k) (counted e (s .tally))
     unfolding movedState entryOf total
     new-state =
         let q : set (s .banks) next (entry Valid t (h .size)) ≡ layTable (set (b .slots) (nextBank b) (valid (moved k))) =
         (λ j. set (banks-are g j) next (entry Valid (total-left j) (size-is (m .known) j)))
         ∙ sym (table-set (b .slots) next (valid (moved k)) (inside g next next-low))
         ∙ ap (λ (i : ℕ). layTable (set (b .slots) i (valid (moved k)))) next-is in
-        l .state ∙ (λ j. record { n = n-is g j; active = next-is j; tally = tallied (s .tally) e; banks = q j })
+        l .state ∙ (λ j. record { n = n-is g j; active = next-is j; tally = counted e (s .tally); banks = q j })
 
     pub new-in : s′ .active < 16
     new-in = omega (arith, new-active, next-in)

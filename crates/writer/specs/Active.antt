@@ -17,7 +17,7 @@ use Rattle.nvram.specs.Book.{Book, activeSlot}
 use Rattle.nvram.specs.Figures.{figuresOf}
 use Rattle.nvram.specs.Layout.{view}
 use Rattle.nvram.specs.Ready.{activeEntry}
-use Rattle.nvram.specs.Commit.{move, judge}
+use Rattle.nvram.specs.Commit.{move, judgeBank}
 use Rattle.nvram.specs.Call.{commit}
 use Rattle.nvram.specs.Contract.{Does}
 use Rattle.writer.specs.declared.commit.Applied.{Applied}
@@ -31,7 +31,7 @@ pub record Active (s : Nvram) (w : List ℕ) (h : StoreHeader) : Type 0 where
 
 -- the active bank's commit is to move it
 abbrev pub MoveDue : Nvram → List ℕ → Type 0
-MoveDue s w = (b : Book) (k : Bank) → view s w ≡ some b → activeSlot b ≡ valid k → judge k ≡ move
+MoveDue s w = (b : Book) (k : Bank) → view s w ≡ some b → activeSlot b ≡ valid k → judgeBank k ≡ move
 
 -- what the active bank's live records come to, by section
 abbrev pub Used : Nvram → List ℕ → Figures → Type 0

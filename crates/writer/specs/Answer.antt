@@ -7,7 +7,7 @@ use Rattle.nvram.specs.declared.state.Nvram.{Nvram}
 use Rattle.nvram.specs.Part.{entry}
 use Rattle.nvram.specs.Commit.{Judged, refuse, inPlace, move}
 use Rattle.nvram.specs.Call.{Answer, committed}
-use Rattle.nvram.specs.Contract.{tallied}
+use Rattle.nvram.specs.Tally.{counted}
 use Rattle.writer.specs.declared.commit.Erase.{Erase}
 use Rattle.writer.specs.declared.commit.Erase.the-variants.{Nothing, At}
 use Rattle.writer.specs.declared.commit.Applied.{Applied}
@@ -29,4 +29,4 @@ verdict code.the-variants.Move = move
 -- a state after a move: the bank in slot i, which becomes active, and the erase request counted
 unfoldable pub movedState : Nvram → ℕ → ℕ → ℕ → Option ℕ → Nvram
 movedState s i total usable erase =
-    record { n = s .n; active = i; tally = tallied (s .tally) erase; banks = set (s .banks) i (entry Valid total usable) }
+    record { n = s .n; active = i; tally = counted erase (s .tally); banks = set (s .banks) i (entry Valid total usable) }

@@ -7,18 +7,18 @@ use nvram::Entry;
 use nvram::Figures;
 use nvram::Kind;
 use nvram::Nvram;
+use nvram::Tally;
 use nvram::check;
 ghost use mathlib.Core.Path.{_≡_};
 ghost use mathlib.Core.List.{_++_};
 ghost use Prim.Native.Nat.{_+_, _*_, _≤_, _<_};
 ghost use lib.ListN.{length, take, drop};
-ghost use Rattle.bank.specs.Bank.{Bank, Slot};
-ghost use Rattle.bank.specs.Figures.{total as totalOf, systemUsed, commonUsed};
+ghost use Rattle.bank.specs.Bank.{Slot};
 ghost use Rattle.nvram.specs.Commit.{judge as judgeOf, raised as raisedOf, request as requestOf};
 ghost use Rattle.nvram.specs.Ready.{activeEntry};
 ghost use Rattle.nvram.specs.Call.{committed};
 ghost use Rattle.nvram.specs.Part.{entryOf};
-ghost use Rattle.nvram.specs.Contract.{tallied};
+ghost use Rattle.nvram.specs.Tally.{counted};
 ghost use Rattle.writer.specs.Answer.{applied, verdict, asked, movedState};
 ghost use Rattle.writer.specs.Active.{Active, MoveDue, Used, Commits};
 
@@ -56,9 +56,9 @@ fn refused(state: Nvram, number: u32, erase: Erase) -> Applied
     }
 }
 
-// By the active bank's header, figures and entry.
-fn judge(header: StoreHeader, used: Figures, entry: Entry) -> Judged
-    ensures { λ r. ⌜ ((k : Bank) → header ≡ k .header → used .system ≡ systemUsed k → used .common ≡ commonUsed k → entry .total ≡ totalOf k → entry .usable ≡ k .usable → verdict r ≡ judgeOf k) ⌝ }
+// By a bank's header, its figures, and whether a move is due.
+fn judge(header: StoreHeader, used: Figures, due: bool) -> Judged
+    ensures { λ r. ⌜ verdict r ≡ judgeOf header (used .system) (used .common) due ⌝ }
 {
     if (header.system_size as usize) < used.system {
         return Judged::Refuse(9);
@@ -66,7 +66,7 @@ fn judge(header: StoreHeader, used: Figures, entry: Entry) -> Judged
     if (header.common_size as usize) < used.common {
         return Judged::Refuse(10);
     }
-    if entry.total <= entry.usable {
+    if !due {
         return Judged::InPlace;
     }
     if header.generation == 4294967295 {
@@ -98,8 +98,8 @@ fn request(kind: Kind, i: usize) -> Erase
 }
 
 // The tally stops at its greatest number.
-fn tally(tally: u32, erase: Erase) -> u32
-    ensures { λ r. ⌜ r ≡ tallied tally (asked erase) ⌝ }
+fn tally(tally: Tally, erase: Erase) -> Tally
+    ensures { λ r. ⌜ r ≡ counted (asked erase) tally ⌝ }
 {
     match erase {
         Erase::Nothing => tally,
@@ -187,7 +187,7 @@ fn commit_active(
     let part = i * Nvram::PART;
     let from = part + Variable::STORE_HEADER_SIZE;
     let to = part + entry.total as usize;
-    match judge(header, used, entry) {
+    match judge(header, used, entry.usable < entry.total) {
         Judged::Refuse(number) => refused(state, number, Erase::Nothing),
         Judged::InPlace => write(state, work, output, header.size as usize, Erase::Nothing),
         Judged::Move => move_on(state, work, output, from, to, header),

@@ -4,7 +4,7 @@ use lib.ListN.{length}
 use Rattle.nvram.specs.Call.{commit}
 use Rattle.writer.specs.Answer.{applied}
 use Rattle.exports.proofs.StateLaws.{read-is}
-use Rattle.exports.proofs.StoreLaws.{load-none, load-some, writes-6, writes}
+use Rattle.exports.proofs.StoreLaws.{load-none, load-some, calls-6, calls}
 use borrow.Author.Needs.{needs}
 use Rattle.exports.proofs.store.feqyondil_commit.Statement.{statement}
 use Rattle.exports.proofs.store.feqyondil_commit.Tie as tie
@@ -17,7 +17,7 @@ same-length c = search needs
 
 returns : tie.Need-returns
 returns c = let a = c .before .before .before .before .before .before .before .before .args in
-    writes-6 (commit (length (a .output .now))) (a .state .now) (a .work .now) (load-none _ _ (c .before .before .before .load .ensures) (not-true _ (c .before .if1 .taken))) refl (a .output .now)
+    calls-6 (commit (length (a .output .now))) (a .state .now) (a .work .now) (a .output .now) _ _ _ (load-none _ _ (c .before .before .before .load .ensures) (not-true _ (c .before .if1 .taken))) (record { returned = refl; fields = refl; bytes = refl; rest = refl })
 
 apply-requires : tie.Need-apply-requires
 apply-requires c κs = search needs
@@ -40,8 +40,8 @@ same-length-4 c = search needs
 returns-2 : tie.Need-returns-2
 returns-2 c = let a = c .before .before .before .before .before .before .before .before .before .before .before .before .before .before .before .before .before .before .before .before .before .args in
     let d = c .before .before .before .before .before .before .before .before .before .before .apply in
-    writes (commit (length (a .output .now))) (a .state .now) (a .work .now) _ (load-some _ _ (c .before .before .before .before .before .before .before .before .before .before .before .before .before .before .before .before .load .ensures) (not-false _ (c .before .before .before .before .before .before .before .before .before .before .before .before .before .before .if1 .left)))
-    (applied (d .result)) _ _ _ _ _ _ _ refl (c .requests .ensures) (d .ensures .0) (d .ensures .1) (c .before .before .before .store .ensures)
+    calls (commit (length (a .output .now))) (a .state .now) (a .work .now) (a .output .now) _ _ _ _ (load-some _ _ (c .before .before .before .before .before .before .before .before .before .before .before .before .before .before .before .before .load .ensures) (not-false _ (c .before .before .before .before .before .before .before .before .before .before .before .before .before .before .if1 .left)))
+    (applied (d .result)) _ (record { returned = refl; fields = c .requests .ensures; bytes = refl; rest = d .ensures .1 }) _ _ _ (d .ensures .0) (c .before .before .before .store .ensures)
 
 pub feqyondil-commit-spec : {M : Type 1} → statement M
 feqyondil-commit-spec =

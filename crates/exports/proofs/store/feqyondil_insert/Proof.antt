@@ -1,6 +1,9 @@
 use Rattle.exports.proofs.StoreLaws.{load-none, load-some, calls-6, calls}
 use borrow.Author.Tests.{not-true, not-false}
-use Rattle.nvram.specs.Call.{insert, edited}
+use mathlib.Core.Path.{refl}
+use mathlib.Core.List.{[]}
+use Rattle.nvram.specs.Edit.{plain, insert}
+use Rattle.nvram.specs.Call.{edit, edited}
 use Rattle.exports.specs.Store.{typeOf}
 use Rattle.exports.proofs.StateLaws.{read-is}
 use borrow.Author.Needs.{needs}
@@ -14,7 +17,7 @@ same-length : tie.Need-same-length
 same-length c = search needs
 
 returns : tie.Need-returns
-returns c = let a = c .before .before .before .before .before .before .before .before .args in calls-6 (insert (a .key .now) (a .value .now) (typeOf (a .typ))) (a .state .now) (a .work .now) (load-none _ _ (c .before .before .load .ensures) (not-true _ (c .if1 .taken)))
+returns c = let a = c .before .before .before .before .before .before .before .before .args in calls-6 (edit (insert plain (a .key .now) (a .value .now) (typeOf (a .typ)))) (a .state .now) (a .work .now) [] _ [] [] (load-none _ _ (c .before .before .load .ensures) (not-true _ (c .if1 .taken))) refl
 
 var-type-requires : tie.Need-var-type-requires
 var-type-requires c κs = search needs
@@ -34,8 +37,8 @@ same-length-3 c = search needs
 returns-2 : tie.Need-returns-2
 returns-2 c = let a = c .before .before .before .before .before .before .before .before .before .before .before .before .before .before .before .before .before .before .before .args in
     let t = c .before .before .before .before .before .before .before .before .var-type .ensures in
-    calls (insert (a .key .now) (a .value .now) (typeOf (a .typ))) (a .state .now) (a .work .now) _ (load-some _ _ (c .before .before .before .before .before .before .before .before .before .before .before .before .before .load .ensures) (not-false _ (c .before .before .before .before .before .before .before .before .before .before .before .if1 .left)))
-    (edited (c .before .before .before .before .before .before .before .insert-variable .result .number)) _ _ _ _ (rw t at (c .before .before .before .before .before .before .before .insert-variable .ensures)) (c .before .before .store .ensures)
+    calls (edit (insert plain (a .key .now) (a .value .now) (typeOf (a .typ)))) (a .state .now) (a .work .now) [] _ [] [] _ (load-some _ _ (c .before .before .before .before .before .before .before .before .before .before .before .before .before .load .ensures) (not-false _ (c .before .before .before .before .before .before .before .before .before .before .before .if1 .left)))
+    (edited (c .before .before .before .before .before .before .before .insert-variable .result .number)) [] refl _ _ _ (rw t at (c .before .before .before .before .before .before .before .insert-variable .ensures)) (c .before .before .store .ensures)
 
 pub feqyondil-insert-spec : {M : Type 1} → statement M
 feqyondil-insert-spec =

@@ -1,6 +1,8 @@
-use Rattle.exports.proofs.StoreLaws.{load-none, load-some, finds-6, finds}
+use Rattle.exports.proofs.StoreLaws.{load-none, load-some, calls-6, keeps}
 use native.Mathlib.Omega.{arith}
 use borrow.Author.Tests.{not-true, not-false}
+use mathlib.Core.Path.{refl}
+use mathlib.Core.List.{[]}
 use Rattle.nvram.specs.Call.{lookup}
 use Rattle.exports.specs.Store.{typeOf}
 use borrow.Author.Needs.{needs}
@@ -11,7 +13,7 @@ load-requires : tie.Need-load-requires
 load-requires c κs = search needs
 
 returns : tie.Need-returns
-returns c = let a = c .before .before .before .before .before .before .before .args in finds-6 (lookup (a .key .now) (typeOf (a .typ))) (a .state .now) (a .work .now) (load-none _ _ (c .before .before .before .load .ensures) (not-true _ (c .before .if1 .taken)))
+returns c = let a = c .before .before .before .before .before .before .before .args in calls-6 (lookup (a .key .now) (typeOf (a .typ))) (a .state .now) (a .work .now) [] _ _ [] (load-none _ _ (c .before .before .before .load .ensures) (not-true _ (c .before .if1 .taken))) (refl, refl)
 
 var-type-requires : tie.Need-var-type-requires
 var-type-requires c κs = search needs
@@ -28,8 +30,8 @@ number-requires c κs = search needs
 returns-2 : tie.Need-returns-2
 returns-2 c = let a = c .before .before .before .before .before .before .before .before .before .before .before .args in
     let t = c .before .before .before .var-type .ensures in
-    finds (lookup (a .key .now) (typeOf (a .typ))) (a .state .now) (a .work .now) _ (load-some _ _ (c .before .before .before .before .before .before .before .load .ensures) (not-false _ (c .before .before .before .before .before .if1 .left)))
-    (λ i. omega (arith, c .before .before .before .before .before .before .before .before .before .before .shared-slice-known .given i)) _ _ _ (rw t at (c .before .before .get-variable .ensures)) (c .number .ensures) (c .before .fields .ensures)
+    keeps (lookup (a .key .now) (typeOf (a .typ))) (a .state .now) (a .work .now) [] _ _ [] _ (load-some _ _ (c .before .before .before .before .before .before .before .load .ensures) (not-false _ (c .before .before .before .before .before .if1 .left)))
+    _ [] (c .number .ensures, c .before .fields .ensures) _ (λ i. omega (arith, c .before .before .before .before .before .before .before .before .before .before .shared-slice-known .given i)) (rw t at (c .before .before .get-variable .ensures))
 
 pub feqyondil-lookup-spec : {M : Type 1} → statement M
 feqyondil-lookup-spec =

@@ -1,7 +1,10 @@
 use Rattle.exports.proofs.StoreLaws.{load-none, load-some, calls-6, removes}
 use native.Mathlib.Omega.{arith}
 use borrow.Author.Tests.{not-true, not-false}
-use Rattle.nvram.specs.Call.{remove}
+use mathlib.Core.Path.{refl}
+use mathlib.Core.List.{[]}
+use Rattle.nvram.specs.Edit.{remove}
+use Rattle.nvram.specs.Call.{edit}
 use Rattle.exports.specs.Store.{typeOf}
 use borrow.Author.Needs.{needs}
 use Rattle.exports.proofs.store.feqyondil_remove.Statement.{statement}
@@ -11,7 +14,7 @@ load-requires : tie.Need-load-requires
 load-requires c κs = search needs
 
 returns : tie.Need-returns
-returns c = let a = c .before .before .before .before .before .before .args in calls-6 (remove (a .key .now) (typeOf (a .typ))) (a .state .now) (a .work .now) (load-none _ _ (c .before .before .load .ensures) (not-true _ (c .if1 .taken)))
+returns c = let a = c .before .before .before .before .before .before .args in calls-6 (edit (remove (a .key .now) (typeOf (a .typ)))) (a .state .now) (a .work .now) [] _ [] [] (load-none _ _ (c .before .before .load .ensures) (not-true _ (c .if1 .taken))) refl
 
 var-type-requires : tie.Need-var-type-requires
 var-type-requires c κs = search needs

@@ -1,5 +1,7 @@
-use Rattle.exports.proofs.StoreLaws.{load-none, load-some, hands-6, hands}
-use mathlib.Core.Path.{refl}
+use Rattle.exports.proofs.StoreLaws.{load-none, load-some, calls-6, keeps}
+use mathlib.Core.Path.{refl, sym}
+use mathlib.Core.List.{[]}
+use Rattle.buffers.proofs.Laws.{onto-fits}
 use native.Mathlib.Omega.{arith}
 use borrow.Author.Tests.{not-true, not-false}
 use Rattle.nvram.specs.Call.{fetch, handed}
@@ -12,7 +14,7 @@ load-requires : tie.Need-load-requires
 load-requires c κs = search needs
 
 returns : tie.Need-returns
-returns c = let a = c .before .before .before .before .before .before .before .args in hands-6 (fetch (a .key .now) (typeOf (a .typ))) (a .state .now) (a .work .now) (load-none _ _ (c .before .before .load .ensures) (not-true _ (c .if1 .taken))) _
+returns c = let a = c .before .before .before .before .before .before .before .args in calls-6 (fetch (a .key .now) (typeOf (a .typ))) (a .state .now) (a .work .now) (a .out .now) 0 [] _ (load-none _ _ (c .before .before .load .ensures) (not-true _ (c .if1 .taken))) (refl, sym (onto-fits [] (a .out .now) (omega arith)))
 
 var-type-requires : tie.Need-var-type-requires
 var-type-requires c κs = search needs
@@ -29,8 +31,8 @@ same-length c = search needs
 returns-2 : tie.Need-returns-2
 returns-2 c = let a = c .before .before .before .before .before .before .before .before .before .before .before .before .before .before .args in
     let t = c .before .before .before .before .before .var-type .ensures in
-    hands (fetch (a .key .now) (typeOf (a .typ))) (a .state .now) (a .work .now) _ (load-some _ _ (c .before .before .before .before .before .before .before .before .before .load .ensures) (not-false _ (c .before .before .before .before .before .before .before .if1 .left)))
-    (λ i. omega (arith, c .before .before .before .before .before .before .before .before .before .before .before .before .before .shared-slice-known .given i)) handed _ _ _ _ (rw t at (c .before .before .before .before .value .ensures)) refl (c .before .before .copy .ensures)
+    keeps (fetch (a .key .now) (typeOf (a .typ))) (a .state .now) (a .work .now) (a .out .now) _ [] _ _ (load-some _ _ (c .before .before .before .before .before .before .before .before .before .load .ensures) (not-false _ (c .before .before .before .before .before .before .before .if1 .left)))
+    handed _ (refl, c .before .before .copy .ensures) _ (λ i. omega (arith, c .before .before .before .before .before .before .before .before .before .before .before .before .before .shared-slice-known .given i)) (rw t at (c .before .before .before .before .value .ensures))
 
 pub feqyondil-value-spec : {M : Type 1} → statement M
 feqyondil-value-spec =

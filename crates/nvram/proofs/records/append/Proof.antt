@@ -63,13 +63,13 @@ slice-write-work c = search needs
 
 sub-copy-3 : tie.Need-sub-copy-3
 sub-copy-3 c = let a = c .before .before .before .before .before .before .before .before .before .before .before .before .before .before .before .args in
-    let h = fresh-bytes (a .key .now) (a .value .now) (a .typ) _ (c .before .before .before .before .before .before .before .before .before .before .before .crc32 .ensures) _ (c .before .before .before .before .before .before .before .before .before .before .fresh .ensures) _ (c .before .before .before .before .before .before .before .before .before .serialize .ensures) in
-    omega (arith, three-long (a .at) (a .key .now) (a .value .now) (a .work .now) (a .typ) (c .before .before .before .before .before .before .before .before .before .before .before .before .before .before .before .pre .2) _ h _ (c .before .before .before .before .before .before .copy .ensures) _ (c .before .before .copy2 .ensures))
+    let h = fresh-bytes (a .attrs) (a .key .now) (a .value .now) (a .typ) _ (c .before .before .before .before .before .before .before .before .before .before .before .crc32 .ensures) _ (c .before .before .before .before .before .before .before .before .before .before .fresh .ensures) _ (c .before .before .before .before .before .before .before .before .before .serialize .ensures) in
+    omega (arith, three-long (a .at) (a .attrs) (a .key .now) (a .value .now) (a .work .now) (a .typ) (c .before .before .before .before .before .before .before .before .before .before .before .before .before .before .before .pre .2) _ h _ (c .before .before .before .before .before .before .copy .ensures) _ (c .before .before .copy2 .ensures))
 
 part-copy-start-3 : tie.Need-part-copy-start-3
 part-copy-start-3 c = let a = c .before .before .before .before .before .before .before .before .before .before .before .before .before .before .before .args in
-    let h = fresh-bytes (a .key .now) (a .value .now) (a .typ) _ (c .before .before .before .before .before .before .before .before .before .before .before .crc32 .ensures) _ (c .before .before .before .before .before .before .before .before .before .before .fresh .ensures) _ (c .before .before .before .before .before .before .before .before .before .serialize .ensures) in
-    omega (arith, three-long (a .at) (a .key .now) (a .value .now) (a .work .now) (a .typ) (c .before .before .before .before .before .before .before .before .before .before .before .before .before .before .before .pre .2) _ h _ (c .before .before .before .before .before .before .copy .ensures) _ (c .before .before .copy2 .ensures))
+    let h = fresh-bytes (a .attrs) (a .key .now) (a .value .now) (a .typ) _ (c .before .before .before .before .before .before .before .before .before .before .before .crc32 .ensures) _ (c .before .before .before .before .before .before .before .before .before .before .fresh .ensures) _ (c .before .before .before .before .before .before .before .before .before .serialize .ensures) in
+    omega (arith, three-long (a .at) (a .attrs) (a .key .now) (a .value .now) (a .work .now) (a .typ) (c .before .before .before .before .before .before .before .before .before .before .before .before .before .before .before .pre .2) _ h _ (c .before .before .before .before .before .before .copy .ensures) _ (c .before .before .copy2 .ensures))
 
 part-copy-end-3 : tie.Need-part-copy-end-3
 part-copy-end-3 c = search needs
@@ -79,13 +79,13 @@ copy-requires-3 c κs = search needs
 
 same-length : tie.Need-same-length
 same-length c = let a = c .before .before .before .before .before .before .before .before .before .before .before .before .before .before .before .before .before .before .before .args in
-    let h = fresh-bytes (a .key .now) (a .value .now) (a .typ) _ (c .before .before .before .before .before .before .before .before .before .before .before .before .before .before .before .crc32 .ensures) _ (c .before .before .before .before .before .before .before .before .before .before .before .before .before .before .fresh .ensures) _ (c .before .before .before .before .before .before .before .before .before .before .before .before .before .serialize .ensures) in
-    four-long (a .at) (a .key .now) (a .value .now) (a .work .now) (a .typ) (c .before .before .before .before .before .before .before .before .before .before .before .before .before .before .before .before .before .before .before .pre .2) _ h _ (c .before .before .before .before .before .before .before .before .before .before .copy .ensures) _ (c .before .before .before .before .before .before .copy2 .ensures) _ (c .before .before .copy3 .ensures)
+    let h = fresh-bytes (a .attrs) (a .key .now) (a .value .now) (a .typ) _ (c .before .before .before .before .before .before .before .before .before .before .before .before .before .before .before .crc32 .ensures) _ (c .before .before .before .before .before .before .before .before .before .before .before .before .before .before .fresh .ensures) _ (c .before .before .before .before .before .before .before .before .before .before .before .before .before .serialize .ensures) in
+    four-long (a .at) (a .attrs) (a .key .now) (a .value .now) (a .work .now) (a .typ) (c .before .before .before .before .before .before .before .before .before .before .before .before .before .before .before .before .before .before .before .pre .2) _ h _ (c .before .before .before .before .before .before .before .before .before .before .copy .ensures) _ (c .before .before .before .before .before .before .copy2 .ensures) _ (c .before .before .copy3 .ensures)
 
 returns : tie.Need-returns
 returns c = let a = c .before .before .before .before .before .before .before .before .before .before .before .before .before .before .before .before .before .before .before .args in
-    let h = fresh-bytes (a .key .now) (a .value .now) (a .typ) _ (c .before .before .before .before .before .before .before .before .before .before .before .before .before .before .before .crc32 .ensures) _ (c .before .before .before .before .before .before .before .before .before .before .before .before .before .before .fresh .ensures) _ (c .before .before .before .before .before .before .before .before .before .before .before .before .before .serialize .ensures) in
-    four-is (a .at) (a .key .now) (a .value .now) (a .work .now) (a .typ) (c .before .before .before .before .before .before .before .before .before .before .before .before .before .before .before .before .before .before .before .pre .2) _ h _ (c .before .before .before .before .before .before .before .before .before .before .copy .ensures) _ (c .before .before .before .before .before .before .copy2 .ensures) _ (c .before .before .copy3 .ensures)
+    let h = fresh-bytes (a .attrs) (a .key .now) (a .value .now) (a .typ) _ (c .before .before .before .before .before .before .before .before .before .before .before .before .before .before .before .crc32 .ensures) _ (c .before .before .before .before .before .before .before .before .before .before .before .before .before .before .fresh .ensures) _ (c .before .before .before .before .before .before .before .before .before .before .before .before .before .serialize .ensures) in
+    four-is (a .at) (a .attrs) (a .key .now) (a .value .now) (a .work .now) (a .typ) (c .before .before .before .before .before .before .before .before .before .before .before .before .before .before .before .before .before .before .before .pre .2) _ h _ (c .before .before .before .before .before .before .before .before .before .before .copy .ensures) _ (c .before .before .before .before .before .before .copy2 .ensures) _ (c .before .before .copy3 .ensures)
 
 pub append-spec : {M : Type 1} → statement M
 append-spec =

@@ -37,11 +37,11 @@ is-match-requires c κs = see (c .before .before .before .loop .inv (c .before .
 size-requires : tie.Need-size-requires Inv-loop μ-loop
 size-requires c κs = search needs
 
-add-value : tie.Need-add-value Inv-loop μ-loop
-add-value c = let k = see (c .before .before .before .before .before .before .loop .inv (c .before .before .before .before .before .before .before .before .before .pre .0) (c .before .before .before .before .before .before .before .before .before .pre .1)) (c .before .before .before .before .before .loop-test .taken) (c .before .before .before .parse .result) (c .before .before .before .parse .ensures) in omega (arith, k .within, c .size .ensures)
+add-t16 : tie.Need-add-t16 Inv-loop μ-loop
+add-t16 c = let k = see (c .before .before .before .before .before .before .loop .inv (c .before .before .before .before .before .before .before .before .before .pre .0) (c .before .before .before .before .before .before .before .before .before .pre .1)) (c .before .before .before .before .before .loop-test .taken) (c .before .before .before .parse .result) (c .before .before .before .parse .ensures) in omega (arith, k .within, c .size .ensures)
 
-cast-t15 : tie.Need-cast-t15 Inv-loop μ-loop
-cast-t15 c = search needs
+cast-t17 : tie.Need-cast-t17 Inv-loop μ-loop
+cast-t17 c = search needs
 
 returns : tie.Need-returns Inv-loop μ-loop
 returns c = λ rs h. see (c .before .before .before .before .before .before .before .loop .inv rs h) (c .before .before .before .before .before .before .loop-test .taken) (c .before .before .before .before .parse .result) (c .before .before .before .before .parse .ensures) .hit (sym (c .before .before .before .is-match .ensures) ∙ c .before .before .if1 .taken) (c .before .size .result) (c .before .size .ensures)
@@ -74,8 +74,8 @@ find-spec =
     parse-requires
     is-match-requires
     size-requires
-    add-value
-    cast-t15
+    add-t16
+    cast-t17
     returns
     size-requires-2
     add-at

@@ -2,10 +2,10 @@ use mathlib.Core.Path.{_≡_, refl, sym, ap, _∙_}
 use mathlib.Core.Option.{none}
 use native.Mathlib.Omega.{arith}
 use lib.ListN.{length-map}
-use Rattle.nvram.specs.Commit.{judge}
+use Rattle.nvram.specs.Commit.{judgeBank}
 use Rattle.nvram.proofs.ActiveLaws.{active-in, part-within}
 use Rattle.writer.specs.Answer.{verdict}
-use Rattle.writer.proofs.CommitLaws.{Known, sound, here, size-high, judged, due, refuses, stays, quiet, wrote}
+use Rattle.writer.proofs.CommitLaws.{Known, sound, here, size-high, judged, move-due, refuses, stays, quiet, wrote}
 use borrow.Author.Needs.{needs}
 use Rattle.writer.proofs.commit.commit_active.Statement.{statement}
 use Rattle.writer.proofs.commit.commit_active.Tie as tie
@@ -14,8 +14,8 @@ at-hand : (c : tie.After-slice-known2) → Known (c .before .before .args .t1) (
 at-hand c =
     record { bytes = λ i. omega (arith, c .before .slice-known .given i); long = simp length-map at (c .before .before .good .0 .1 .1 .1 .1 .1 .0 .1 .0 .1); active = c .before .before .pre .0 }
 
-decided : (c : tie.After-judge) → verdict (c .judge .result) ≡ judge (here (at-hand (c .before .before .before)))
-decided c = judged (at-hand (c .before .before .before)) _ _ _ _ (c .before .before .before .before .before .pre .1) refl refl (c .judge .ensures)
+decided : (c : tie.After-judge) → verdict (c .judge .result) ≡ judgeBank (here (at-hand (c .before .before .before .before)))
+decided c = judged (at-hand (c .before .before .before .before)) _ _ _ (c .before .before .before .before .before .before .pre .1) refl (c .judge .ensures)
 
 cast-i : tie.Need-cast-i
 cast-i c = search needs
@@ -54,17 +54,17 @@ cast-write : tie.Need-cast-write
 cast-write c = search needs
 
 write-requires : tie.Need-write-requires
-write-requires c κs = let k = at-hand (c .before .before .before .before .before .before .before .before) in (active-in (sound k), size-high k, part-within (sound k), c .before .before .before .before .before .before .before .before .before .before .pre .2)
+write-requires c κs = let k = at-hand (c .before .before .before .before .before .before .before .before .before) in (active-in (sound k), size-high k, part-within (sound k), c .before .before .before .before .before .before .before .before .before .before .before .pre .2)
 
 enum-told-2 : tie.Need-enum-told-2
 enum-told-2 c = search needs
 
 move-on-requires : tie.Need-move-on-requires
-move-on-requires c κs = let k = at-hand (c .before .before .before .before .before .before .before) in (k .active, due k (sym (ap verdict (c .before .before .enum-told2 .given .1)) ∙ decided (c .before .before .before .before)), refl, refl, c .before .before .before .before .before .before .before .before .before .pre .2)
+move-on-requires c κs = let k = at-hand (c .before .before .before .before .before .before .before .before) in (k .active, move-due k (sym (ap verdict (c .before .before .enum-told2 .given .1)) ∙ decided (c .before .before .before .before)), refl, refl, c .before .before .before .before .before .before .before .before .before .before .pre .2)
 
 returns : tie.Need-returns
-returns c = let k = at-hand (c .before .before .before .before .before .before .before) in let a = c .before .before .before .before .before .before .before .before .before .args in
-    quiet (a .output .now) (c .refused .result) none _ (c .refused .ensures) (refuses k _ (c .before .before .before .before .before .before .before .before .before .pre .2) _ (sym (ap verdict (c .before .before .number .given .1)) ∙ decided (c .before .before .before .before)))
+returns c = let k = at-hand (c .before .before .before .before .before .before .before .before) in let a = c .before .before .before .before .before .before .before .before .before .before .args in
+    quiet (a .output .now) (c .refused .result) none _ (c .refused .ensures) (refuses k _ (c .before .before .before .before .before .before .before .before .before .before .pre .2) _ (sym (ap verdict (c .before .before .number .given .1)) ∙ decided (c .before .before .before .before)))
 
 same-length : tie.Need-same-length
 same-length c = search needs
@@ -73,8 +73,8 @@ same-length-2 : tie.Need-same-length-2
 same-length-2 c = search needs
 
 returns-2 : tie.Need-returns-2
-returns-2 c = let k = at-hand (c .before .before .before .before .before .before .before .before .before .before .before) in let a = c .before .before .before .before .before .before .before .before .before .before .before .before .before .args in
-    wrote (a .output .now) (c .before .before .write .result) none _ (a .header .size) (size-high k) (part-within (sound k)) (c .before .before .write .ensures) (stays k _ (c .before .before .before .before .before .before .before .before .before .before .before .before .before .pre .2) (sym (ap verdict (c .before .before .before .before .before .before .enum-told .given .1)) ∙ decided (c .before .before .before .before .before .before .before .before)))
+returns-2 c = let k = at-hand (c .before .before .before .before .before .before .before .before .before .before .before .before) in let a = c .before .before .before .before .before .before .before .before .before .before .before .before .before .before .args in
+    wrote (a .output .now) (c .before .before .write .result) none _ (a .header .size) (size-high k) (part-within (sound k)) (c .before .before .write .ensures) (stays k _ (c .before .before .before .before .before .before .before .before .before .before .before .before .before .before .pre .2) (sym (ap verdict (c .before .before .before .before .before .before .enum-told .given .1)) ∙ decided (c .before .before .before .before .before .before .before .before)))
 
 same-length-3 : tie.Need-same-length-3
 same-length-3 c = search needs

@@ -40,6 +40,9 @@ returns-3 c = let a = signed-as _ (c .before .before .before .before .before .be
 u32-at-requires : tie.Need-u32-at-requires
 u32-at-requires c κs = search needs
 
+cast-if4 : tie.Need-cast-if4
+cast-if4 c = search needs
+
 returns-4 : tie.Need-returns-4
 returns-4 c = let a = signed-as _ (c .before .before .before .before .before .before .before .before .if1 .left) ∙ sym (c .before .before .before .before .before .same .ensures) ∙ not-false _ (c .before .before .before .before .if2 .left) in
     sym (head-small _ a (c .before .before .if3 .left) (omega arith))
@@ -83,6 +86,7 @@ parse-spec =
     shared-slice-read-if3
     returns-3
     u32-at-requires
+    cast-if4
     returns-4
     returns-5
     u32-at-requires-2

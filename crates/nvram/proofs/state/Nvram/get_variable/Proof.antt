@@ -24,8 +24,8 @@ enum-known-from c = search needs
 find-requires : tie.Need-find-requires
 find-requires c κs = let k = at-hand c in (records k, here k)
 
-enum-known-place : tie.Need-enum-known-place
-enum-known-place c = search needs
+enum-known-found : tie.Need-enum-known-found
+enum-known-found c = search needs
 
 enum-told : tie.Need-enum-told
 enum-told c = search needs
@@ -36,7 +36,7 @@ returns c = let a = c .before .before .before .before .before .before .args in
 
 returns-2 : tie.Need-returns-2
 returns-2 c = let k = at-hand (c .before .before .before .before) in
-    finds k (c .before .before .before .before .before .before .before .before .before .before .args .key .now) (c .before .before .before .before .before .before .before .before .before .before .args .typ) _ _ (sym (c .before .place .given .1) ∙ c .before .before .before .find .ensures _ (here k))
+    finds k (c .before .before .before .before .before .before .before .before .before .before .args .key .now) (c .before .before .before .before .before .before .before .before .before .before .args .typ) _ (sym (c .before .found .given .1) ∙ c .before .before .before .find .ensures _ (here k))
 
 returns-3 : tie.Need-returns-3
 returns-3 c = let k = at-hand (c .before .before .before) in
@@ -50,7 +50,7 @@ get-variable-spec =
     enum-known-number
     enum-known-from
     find-requires
-    enum-known-place
+    enum-known-found
     enum-told
     returns
     returns-2

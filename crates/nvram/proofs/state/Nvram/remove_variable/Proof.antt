@@ -1,7 +1,8 @@
 use native.Mathlib.Omega.{arith}
 use lib.ListN.{length-map}
 use Rattle.nvram.proofs.ReadyLaws.{Standing, standing, refused}
-use Rattle.nvram.specs.Call.{remove}
+use Rattle.nvram.specs.Edit.{remove}
+use Rattle.nvram.specs.Call.{edit}
 use Rattle.nvram.proofs.StandingLaws.{records, here, removes}
 use borrow.Author.Needs.{needs}
 use Rattle.nvram.proofs.state.Nvram.remove_variable.Statement.{statement}
@@ -28,7 +29,7 @@ same-length c = search needs
 
 returns : tie.Need-returns
 returns c = let a = c .before .before .before .before .before .before .before .args in
-    refused (λ i. omega (arith, c .before .before .before .before .before .before .slice-known .given i)) (simp length-map at (c .before .before .before .before .before .before .before .good .0 .1 .1 .1 .1 .1 .0 .1 .0 .1)) (c .before .before .before .ready .ensures) _ (remove (a .key .now) (a .typ)) tt (c .before .number .given .1)
+    refused (λ i. omega (arith, c .before .before .before .before .before .before .slice-known .given i)) (simp length-map at (c .before .before .before .before .before .before .before .good .0 .1 .1 .1 .1 .1 .0 .1 .0 .1)) (c .before .before .before .ready .ensures) _ (edit (remove (a .key .now) (a .typ))) tt (c .before .number .given .1)
 
 same-length-2 : tie.Need-same-length-2
 same-length-2 c = search needs
