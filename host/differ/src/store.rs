@@ -28,6 +28,7 @@ mod spoil;
 mod state;
 mod tally;
 mod told;
+mod two_banks;
 mod wear;
 mod wrapper;
 
@@ -46,6 +47,7 @@ pub fn run(mode: Mode, rng: &mut Rng) -> Result<u64, String> {
     let mut judge = Judge::new(&Port);
     judge.part("at the lengths' edges", |j| j.edges())?;
     judge.part("the fixed list", |j| j.fixed())?;
+    judge.part("the bench case of two banks", |j| j.two_banks())?;
     let count = mode.pick(600, 24_000);
     judge.part("random", |j| j.random(count, make::run, rng))?;
     let count = mode.pick(120, 26_000);
@@ -101,11 +103,21 @@ impl<'a> Judge<'a> {
         replay::runs().iter().try_for_each(|run| self.judge(run))
     }
 
+    /// By `Store` too. This is the part's only run, so that its pair is the tally's.
+    fn two_banks(&mut self) -> Outcome {
+        let run = two_banks::run();
+        by_store(&run)?;
+        self.judge(&run)?;
+        let pair = two_banks::measured(self.tally.fewest)?;
+        println!("differ: store: {pair}");
+        Ok(())
+    }
+
     fn random(&mut self, count: usize, make: fn(&mut Rng) -> Run, rng: &mut Rng) -> Outcome {
         (0..count).try_for_each(|i| {
             let run = make(rng);
             if i % 4 == 0 {
-                wrapper::compare(&run).map_err(|fault| wrong(&run, &fault))?;
+                by_store(&run)?;
             }
             self.judge(&run)
         })
@@ -124,6 +136,10 @@ impl<'a> Judge<'a> {
         let answers = run::compare(&least, self.port).err().unwrap_or(first);
         Err(wrong(&least, &answers))
     }
+}
+
+fn by_store(run: &Run) -> Outcome {
+    wrapper::compare(run).map_err(|fault| wrong(run, &fault))
 }
 
 fn wrong(run: &Run, answers: &str) -> String {

@@ -64,8 +64,9 @@ impl Watch {
             return Ok(());
         };
         let (live, size) = (bank.live(), bank.header.size as usize);
-        let bounded = self.wear.committed(live, size, erase(port))?;
-        tally.bounded += u64::from(bounded);
+        if let Some(pair) = self.wear.committed(live, size, erase(port))? {
+            *tally += Tally::paired(pair);
+        }
         self.port.carry_out(port)?;
         if let Some(rust) = rust {
             self.rust.carry_out(rust)?;

@@ -5,6 +5,7 @@ use std::ops::AddAssign;
 
 use super::book::Book;
 use super::call::{Answer, Call, What};
+use super::wear::Pair;
 
 /// Refusals go up to 13.
 const NUMBERS: usize = 14;
@@ -25,6 +26,8 @@ pub struct Tally {
     pub moves: u64,
     pub erases: u64,
     pub bounded: u64,
+    /// The pair with the fewest bytes inserted between.
+    pub fewest: Option<Pair>,
     /// Reopenings of the flash by the port, and by the Rust too.
     pub reopened: u64,
     pub rust_reopened: u64,
@@ -39,6 +42,15 @@ impl Tally {
         tally.runs[book.as_ref().err().map_or(0, |&n| n as usize)] = 1;
         tally.banks = book.as_ref().map_or(0, |b| b.slots.len() as u64);
         tally
+    }
+
+    /// Of a pair that the bound asks something of.
+    pub fn paired(pair: Pair) -> Self {
+        Tally {
+            bounded: 1,
+            fewest: Some(pair),
+            ..Tally::default()
+        }
     }
 
     /// Counts a call; `asked` where the active bank is Valid.
@@ -89,6 +101,7 @@ impl AddAssign for Tally {
         self.moves += more.moves;
         self.erases += more.erases;
         self.bounded += more.bounded;
+        self.fewest = self.fewest.into_iter().chain(more.fewest).min();
         self.reopened += more.reopened;
         self.rust_reopened += more.rust_reopened;
         self.rust_runs += more.rust_runs;

@@ -1,7 +1,36 @@
 //! The wear of the flash, by 01, 'A run, its book and the flash': what must have been inserted
 //! between two erase requests for one bank.
 
+use std::fmt::{self, Display, Formatter};
+
 use image::BANK;
+
+/// Two erase requests for a bank that the bound asks something of, by their inserted bytes first.
+#[derive(Clone, Copy, Debug, PartialEq, Eq, PartialOrd, Ord)]
+pub struct Pair {
+    /// Between the two.
+    pub inserted: u64,
+    pub banks: u64,
+    /// 01's S and L.
+    pub size: u64,
+    pub most: u64,
+}
+
+impl Pair {
+    /// The fewest bytes that are to be inserted between the two.
+    fn least(&self) -> u64 {
+        self.banks * (self.size - self.most + 1)
+    }
+}
+
+impl Display for Pair {
+    fn fmt(&self, f: &mut Formatter) -> fmt::Result {
+        let (inserted, least) = (self.inserted, self.least());
+        write!(f, "n {}, S {}, L {}: ", self.banks, self.size, self.most)?;
+        write!(f, "{inserted} bytes inserted between two erase requests ")?;
+        write!(f, "for one bank, of at least {least}")
+    }
+}
 
 /// Since the last erase request for a bank.
 #[derive(Clone, Copy)]
@@ -29,7 +58,8 @@ impl Wear {
     }
 
     /// After a commit, refused or not: what header and live records of the active bank come to,
-    /// its size, and the offset of the bank to erase. Answers whether the bound asked something.
+    /// its size, and the offset of the bank to erase. Answers the pair of which the bound asked
+    /// something.
     ///
     /// Only pairs without another request for the bank between them are looked at: the others
     /// ask for less and have more.
@@ -38,11 +68,11 @@ impl Wear {
         live: usize,
         size: usize,
         erase: Option<usize>,
-    ) -> Result<bool, String> {
+    ) -> Result<Option<Pair>, String> {
         let (live, size) = (live as u64, size as u64);
         let bank = erase.map(|at| at / BANK);
         let before = bank.and_then(|i| self.banks[i]);
-        let bounded = before.map_or(Ok(false), |since| self.bound(since, size))?;
+        let pair = before.map_or(Ok(None), |since| self.bound(since, size))?;
         for since in self.banks.iter_mut().flatten() {
             since.most = since.most.max(live);
         }
@@ -52,21 +82,24 @@ impl Wear {
                 most: live,
             });
         }
-        Ok(bounded)
+        Ok(pair)
     }
 
-    fn bound(&self, since: Since, size: u64) -> Result<bool, String> {
+    fn bound(&self, since: Since, size: u64) -> Result<Option<Pair>, String> {
         let Since { inserted, most } = since;
         if most > size {
-            return Ok(false);
+            return Ok(None);
         }
-        let least = self.banks.len() as u64 * (size - most + 1);
-        if inserted >= least {
-            return Ok(true);
+        let pair = Pair {
+            inserted,
+            banks: self.banks.len() as u64,
+            size,
+            most,
+        };
+        if inserted >= pair.least() {
+            return Ok(Some(pair));
         }
-        Err(format!(
-            "\n  two erase requests for a bank with {inserted} bytes inserted between them, of at least {least}"
-        ))
+        Err(format!("\n  {pair}"))
     }
 }
 
@@ -85,9 +118,10 @@ mod tests {
             wear.inserted(1);
             wear.committed(9_000, BANK, Some(0))
         };
-        assert_eq!(after(114_690), Ok(true));
+        assert_eq!(after(114_690).map(|pair| pair.is_some()), Ok(true));
         let fault = after(114_689).unwrap_err();
-        assert!(fault.contains("114689 bytes inserted"), "{fault}");
+        assert!(fault.contains("L 8192: 114689 bytes inserted"), "{fault}");
+        assert!(fault.ends_with("of at least 114690"), "{fault}");
     }
 
     #[test]
@@ -99,6 +133,6 @@ mod tests {
             wear.committed(0, 200, Some(0))
         };
         assert!(after(200).is_err());
-        assert_eq!(after(201), Ok(false));
+        assert_eq!(after(201), Ok(None));
     }
 }
