@@ -171,3 +171,11 @@ module _ (key : List ℕ) (typ : VarType) (s : Nvram) (w : List ℕ) (l : Lookup
   -- and nothing where there is none, or the lookup is refused
   pub fetch-none : foundOf l ≡ none → Does (fetch key typ) s w handed [] s w
   fetch-none e = subst (λ (y : List ℕ). Does (fetch key typ) s w handed y s w) (stands none e) (fetched .does)
+
+-- what is handed back is what stands in the work area at the place that the lookup answers
+pub value-lies : (key : List ℕ) (typ : VarType) (s : Nvram) (w : List ℕ) → Bytes w → length (s .banks) ≡ 16 → (f : Found)
+    → call (lookup key typ) s w .answer ≡ looked 0 (some f)
+    → (f .place + f .long ≤ length w) × (call (fetch key typ) s w .out ≡ take (f .long) (drop (f .place) w))
+value-lies key typ s w bytes long f e =
+    let x = fetch-at key typ s w (At f) bytes long (sym e) f refl in
+    (x .0, sym (x .1 _ refl .out))

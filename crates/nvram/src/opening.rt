@@ -7,6 +7,7 @@ use bank::Slot;
 ghost use mathlib.Core.Path.{_≡_};
 ghost use mathlib.Core.List.{List, _∷_, _++_};
 ghost use Prim.Native.Nat.{suc, _+_, _*_, _≤_, _<_};
+ghost use lib.Dec.{ltb};
 ghost use lib.ListN.{length, take, drop, replicate};
 ghost use Rattle.bank.specs.Bank.{Slot as Read, bankSize, partOf};
 ghost use Rattle.bank.specs.Read.{readBank};
@@ -113,6 +114,13 @@ fn entry_of(slot: Slot) -> Entry
 
 impl Best {
     // Only a strictly greater generation takes over.
+    fn is_older(self, generation: u32) -> bool
+        ensures { λ r. ⌜ r ≡ ltb (self .generation) generation ⌝ }
+    {
+        self.generation < generation
+    }
+
+    // With bank i, which was read as this slot.
     fn after(self, i: usize, slot: Slot) -> Best
         requires { ⌜ i < 16 ⌝ }
         ensures { λ r. ⌜ ((k : Read) (rest : List Read) → slot ≡ answer k → activeFrom i (self .generation) (self .active) (k ∷ rest) ≡ activeFrom (suc i) (r .generation) (r .active) rest) ⌝ }
@@ -122,7 +130,7 @@ impl Best {
             Slot::Empty => self,
             Slot::Invalid => self,
             Slot::Valid(p) => {
-                if self.generation < p.header.generation {
+                if self.is_older(p.header.generation) {
                     Best {
                         active: i as u32,
                         generation: p.header.generation,

@@ -128,13 +128,10 @@ abbrev pub Tallied : Tally → List Page → Type 0
 Tallied t [] = Unit {0}
 Tallied t (p ∷ ps) = (p .event .state .tally ≡ counted (erase (p .event .answer)) t) × Tallied (p .event .state .tally) ps
 
--- what is asked of each call, given the flash before it, so that the state follows the book
-module _ (Asked : List ℕ → Page → Type 0) (enough : (f : List ℕ) (p : Page) → Asked f p → Follows (p .event .call) (p .event .answer)) where
-  abbrev pub AllAsked : List ℕ → List Page → Type 0
-  AllAsked f ps = Each ps (λ earlier p. Asked (flashAfter f earlier) p)
-
+-- a premise about each call, given the flash before it, by which the state follows the book
+module _ (Premise : List ℕ → Page → Type 0) (enough : (f : List ℕ) (p : Page) → Premise f p → Follows (p .event .call) (p .event .answer)) where
   along : (b₀ : Book) (f : List ℕ) (b : Book) (m : ℕ) (s : Nvram) (w : List ℕ) (es : List Event) → State b₀ f b m → view s w ≡ some b → Run s w es
-      → AllAsked f (pages b es)
+      → Each (pages b es) (λ earlier p. Premise (flashAfter f earlier) p)
       → Along b₀ f b m (pages b es) × Tallied (s .tally) (pages b es)
   unfolding pages flashAfter
   along b₀ f b m s w [] x v r n = (x, tt)
@@ -177,17 +174,17 @@ at-start image work s w bytes q =
     n : ℕ
     n = banksOf image
 
-pub opened-along : (Asked : List ℕ → Page → Type 0) → ((f : List ℕ) (p : Page) → Asked f p → Follows (p .event .call) (p .event .answer))
+pub opened-along : (Premise : List ℕ → Page → Type 0) → ((f : List ℕ) (p : Page) → Premise f p → Follows (p .event .call) (p .event .answer))
     → (image work : List ℕ) (s : Nvram) (w : List ℕ) (es : List Event) → Opens image work s w → Run s w es
     → (let b = openedBook image in
-    Each (pages b es) (λ earlier p. Asked (flashAfter image earlier) p) → Along b image b 0 (pages b es) × Tallied 0 (pages b es))
-opened-along Asked enough image work s w es o r n =
+    Each (pages b es) (λ earlier p. Premise (flashAfter image earlier) p) → Along b image b 0 (pages b es) × Tallied 0 (pages b es))
+opened-along Premise enough image work s w es o r n =
     let b = openedBook image in
     let q = starts image work s w o in
     let x : State b image b 0 =
     record { base = at-start image work s w (o .bytes) q; fixed = λ h. absurd (omega arith); banks = refl; size = refl } in
     subst (λ (t : Tally). Along b image b 0 (pages b es) × Tallied t (pages b es)) (q .tally)
-    (along Asked enough b image b 0 s w es x (q .viewed) r n)
+    (along Premise enough b image b 0 s w es x (q .viewed) r n)
 
 -- parts
 

@@ -1,6 +1,5 @@
 use Rattle.nvram.proofs.LoadLaws.{active-is}
-use mathlib.Core.Path.{_∙_}
-use borrow.Author.Tests.{lt-ltb, le-ltb}
+use mathlib.Core.Path.{sym, _∙_}
 use borrow.Author.Needs.{needs}
 use Rattle.nvram.proofs.opening.Best.after.Statement.{statement}
 use Rattle.nvram.proofs.opening.Best.after.Tie as tie
@@ -17,6 +16,9 @@ enum-told-3 c = search needs
 enum-known-slot : tie.Need-enum-known-slot
 enum-known-slot c = search needs
 
+is-older-requires : tie.Need-is-older-requires
+is-older-requires c κs = search needs
+
 cast-t8 : tie.Need-cast-t8
 cast-t8 c = search needs
 
@@ -31,13 +33,13 @@ returns-3 c = let a = c .before .before .args in active-is (a .i) (a .self .gene
 
 returns-4 : tie.Need-returns-4
 returns-4 c = λ k rest e.
-    let a = c .before .before .before .before .before .before .args in
-    active-is (a .i) (a .self .generation) (a .self .active) (a .slot) _ (c .before .before .before .before .slot .given .1) k rest e ∙ simp (lt-ltb _ _ (c .if1 .taken))
+    let a = c .before .before .before .before .before .args in
+    active-is (a .i) (a .self .generation) (a .self .active) (a .slot) _ (c .before .before .before .slot .given .1) k rest e ∙ simp (sym (c .before .is-older .ensures) ∙ c .if1 .taken)
 
 returns-5 : tie.Need-returns-5
 returns-5 c = λ k rest e.
-    let a = c .before .before .before .before .before .before .args in
-    active-is (a .i) (a .self .generation) (a .self .active) (a .slot) _ (c .before .before .before .before .slot .given .1) k rest e ∙ simp (le-ltb _ _ (c .if1 .left))
+    let a = c .before .before .before .before .before .args in
+    active-is (a .i) (a .self .generation) (a .self .active) (a .slot) _ (c .before .before .before .slot .given .1) k rest e ∙ simp (sym (c .before .is-older .ensures) ∙ c .if1 .left)
 
 pub after-spec : {M : Type 1} → statement M
 after-spec =
@@ -47,6 +49,7 @@ after-spec =
     enum-told-2
     enum-told-3
     enum-known-slot
+    is-older-requires
     cast-t8
     returns
     returns-2
