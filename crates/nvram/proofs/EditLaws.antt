@@ -6,7 +6,7 @@ use mathlib.Core.Logic.{_≢_}
 use mathlib.Core.Bool.{cond}
 use native.Mathlib.Omega.{arith}
 use lib.Dec.{leb}
-use lib.ListN.{length, getD, set, replicate, length-append, length-replicate, replicate-append-replicate}
+use lib.ListN.{length, set, replicate, length-append, length-replicate, replicate-append-replicate}
 use lib.Seq.{set-getD}
 use borrow.Author.Tests.{le-leb}
 use Rattle.crc32.specs.Crc32.{Bytes}

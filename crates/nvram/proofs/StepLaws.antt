@@ -18,7 +18,7 @@ use Rattle.nvram.specs.Part.{partSize, FineSlot}
 use Rattle.nvram.specs.Book.{Book, FineBook, activeSlot, withActive, withRecords}
 use Rattle.nvram.specs.Commit.{moved, nextBank, movedBook}
 use Rattle.nvram.specs.Layout.{layState, layWork, view}
-use Rattle.nvram.specs.Call.{Call, edit, lookup, fetch, commit, wholeImage, Follows, ByteCall, Answer, number, Outcome, step}
+use Rattle.nvram.specs.Call.{Call, edit, lookup, fetch, commit, wholeImage, ByteCall, Answer, number, Outcome, step}
 use Rattle.nvram.specs.Tally.{Tally, tallied}
 use Rattle.nvram.specs.Contract.{onBook, call, Does}
 use Rattle.nvram.proofs.RecordLists.{fine-select, sizes-select, sizes-edited, fine-edited}
@@ -101,7 +101,15 @@ did-fine b c o y f (overflows room d h) = moved-book-fine b (d .bank) f (active-
 pub step-fine : (b : Book) (c : Call) → ByteCall c → FineBook b → FineBook (step b c .laid)
 step-fine b c y f = did-fine b c (step b c) y f (did b c)
 
--- and is the book after, but for 12
+-- the answers after which state and work area hold the book after the call: of a commit all but 12
+abbrev pub Follows : Call → Answer → Type 0
+Follows (edit e) a = Unit {0}
+Follows (lookup key typ) a = Unit {0}
+Follows (fetch key typ) a = Unit {0}
+Follows (commit room) a = number a ≢ 12
+Follows (wholeImage room) a = Unit {0}
+
+-- what is laid out is then the book after
 settled-did : (b : Book) (c : Call) (o : Outcome) → Follows c (o .answer) → Did b c o → o .laid ≡ o .after
 settled-did b c o h (refuses k n) = refl
 settled-did b c o h (reads a x n) = refl

@@ -1,6 +1,5 @@
 -- Calls as data, and what each does to the book and answers (01, 'A commit, from the entry down', 'Edits and lookups', 'Refusals').
 use Prim.Native.Nat.{ℕ, zero, suc, _+_, _*_}
-use mathlib.Core.Logic.{_≢_}
 use mathlib.Core.List.{List, []}
 use mathlib.Core.Bool.{cond}
 use mathlib.Core.Option.{Option, none}
@@ -63,14 +62,6 @@ refusal (lookup key typ) k = looked k none
 refusal (fetch key typ) k = handed
 refusal (commit room) k = committed k none 0 0
 refusal (wholeImage room) k = joined k 0
-
--- the answers after which state and work area hold the book after the call: of a commit all but 12
-abbrev pub Follows : Call → Answer → Type 0
-Follows (edit e) a = Unit {0}
-Follows (lookup key typ) a = Unit {0}
-Follows (fetch key typ) a = Unit {0}
-Follows (commit room) a = number a ≢ 12
-Follows (wholeImage room) a = Unit {0}
 
 -- an answer, the bytes handed back, the book after, and the book that state and work area hold after: another one where 12 keeps the move
 pub record Outcome : Type 0 where

@@ -12,10 +12,10 @@ use Rattle.nvram.specs.Edit.{editedBy}
 use Rattle.nvram.specs.Book.{Book, FineBook, activeSlot, withBank, slotSize}
 use Rattle.nvram.specs.Layout.{view}
 use Rattle.nvram.specs.Opening.{readSlots, banksOf}
-use Rattle.nvram.specs.Call.{Call, Answer, committed, erase, refusal, Follows, Outcome, step}
+use Rattle.nvram.specs.Call.{Call, Answer, committed, erase, refusal, Outcome, step}
 use Rattle.nvram.specs.Tally.{Tally, counted, tallied}
 use Rattle.nvram.proofs.Did.{refuses, reads, edits, writes, moves, overflows, Did, did}
-use Rattle.nvram.proofs.StepLaws.{next-inside, step-fine, settled, keeps}
+use Rattle.nvram.proofs.StepLaws.{next-inside, step-fine, Follows, settled, keeps}
 use Rattle.run.specs.Flash.{carriedOut}
 use Rattle.run.specs.Run.{Opens, Event, Run, openedBook, Page, pages, Each}
 use Rattle.run.specs.Wear.{activeSize, requested, requests}

@@ -11,10 +11,10 @@ use Rattle.bank.specs.Figures.{total, liveTotal}
 use Rattle.nvram.specs.Edit.{editedBy}
 use Rattle.nvram.specs.Book.{Book, FineBook, activeSlot, withBank, withActive, withRecords, slotSize}
 use Rattle.nvram.specs.Commit.{moved, nextBank, nextSlot, request, movedBook}
-use Rattle.nvram.specs.Call.{Call, edited, number, erase, refusal, Follows, Outcome, step}
+use Rattle.nvram.specs.Call.{Call, edited, number, erase, refusal, Outcome, step}
 use Rattle.nvram.proofs.RecordLists.{sizes-edited}
 use Rattle.nvram.proofs.Did.{Due, refuses, reads, edits, writes, moves, overflows, Did, did}
-use Rattle.nvram.proofs.StepLaws.{next-inside}
+use Rattle.nvram.proofs.StepLaws.{next-inside, Follows}
 use Rattle.run.specs.Run.{Page}
 use Rattle.run.specs.Wear.{activeSize, slotLive, liveAt, mostLive, added, insertedBytes}
 use Rattle.run.proofs.Idle.{idle-refusal, idle-read, no-request}
