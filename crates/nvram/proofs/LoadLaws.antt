@@ -23,7 +23,7 @@ use Rattle.nvram.specs.declared.state.Kind.the-variants.{Empty, Invalid,
 use Rattle.nvram.specs.declared.state.Entry.{Entry}
 use Rattle.nvram.specs.Part.{partSize, entry, entryOf, FineSlot}
 use Rattle.nvram.specs.Layout.{layTable, layState, layParts, layWork}
-use Rattle.nvram.specs.Opening.{readSlots, activeFrom, isValid, bookOf}
+use Rattle.nvram.specs.Opening.{slotIn, readSlots, activeFrom, isValid, bookOf}
 use Rattle.nvram.proofs.SlotLaws.{part-size}
 
 -- what the code reads off an answer is what the definitions say of the slot
@@ -91,10 +91,6 @@ pub cast-fits : (slot : Parsed) (p : Partition) → (k : Slot) × (slot ≡ answ
     → (p .«total_used» ≤ 131072) × (p .«usable_size» ≤ 65536)
 cast-fits slot p (k, e, f) g = subst FitsTold (sym e ∙ g) (fits-told k f)
 
--- bank i of an image
-abbrev pub bankAt : List ℕ → ℕ → Slot
-bankAt image i = readBank (take bankSize (drop (i * bankSize) image))
-
 module _ (image : List ℕ) (i a m : ℕ) (is : a ≡ i * 65536) (long : m ≡ 65536) (within : a + m ≤ length image) where
   bank-start : a ≡ i * bankSize
   bank-start = is ∙ ap (λ (k : ℕ). i * k) (sym bank-size)
@@ -102,23 +98,23 @@ module _ (image : List ℕ) (i a m : ℕ) (is : a ≡ i * 65536) (long : m ≡ 6
   lent : length (take m (drop a image)) ≡ m
   lent = simp (length-take, length-drop) (omega arith)
 
-  bank-is : readBank (take bankSize (take m (drop a image))) ≡ bankAt image i
+  bank-is : readBank (take bankSize (take m (drop a image))) ≡ slotIn image i
   bank-is =
       let h : bankSize ≤ m = omega (arith, bank-size) in
       ap readBank (take-take bankSize m (drop a image) h ∙ ap (λ (k : ℕ). take bankSize (drop k image)) bank-start)
 
-  parsed-bank : parsed (take m (drop a image)) ≡ answer (bankAt image i)
+  parsed-bank : parsed (take m (drop a image)) ≡ answer (slotIn image i)
   parsed-bank = sym (parsed-long (take m (drop a image)) bankSize bank-size (omega (arith, lent))) ∙ ap answer bank-is
 
-  pub valid-is : (slot x : Parsed) → slot ≡ parsed (take m (drop a image)) → slot ≡ x → validTold x ≡ isValid (bankAt image i)
-  valid-is slot x e g = ap validTold (sym g ∙ e ∙ parsed-bank) ∙ valid-told (bankAt image i)
+  pub valid-is : (slot x : Parsed) → slot ≡ parsed (take m (drop a image)) → slot ≡ x → validTold x ≡ isValid (slotIn image i)
+  valid-is slot x e g = ap validTold (sym g ∙ e ∙ parsed-bank) ∙ valid-told (slotIn image i)
 
   module _ (out : List ℕ) (room : length out ≡ 131072) where
-    pub serialized-slot : serializedSlot (take m (drop a image)) out ≡ answer (bankAt image i)
+    pub serialized-slot : serializedSlot (take m (drop a image)) out ≡ answer (slotIn image i)
     serialized-slot =
         sym (slot-is (take m (drop a image)) out (omega arith) (parsed (take m (drop a image))) refl) ∙ parsed-bank
 
-    pub serialized-part : serializedPart (take m (drop a image)) out ≡ partOf partSize (bankAt image i)
+    pub serialized-part : serializedPart (take m (drop a image)) out ≡ partOf partSize (slotIn image i)
     unfolding serializedPart
     serialized-part =
         let h : bankSize ≤ length out = omega (arith, bank-size) in
@@ -141,15 +137,15 @@ next : (i k : ℕ) → (i + 1) * k ≡ i * k + k
 next i k = ap (λ (j : ℕ). j * k) (add-one i) ∙ suc-mul i k
 
 pub slots-here : (image : List ℕ) (n i : ℕ) → i < n
-    → readSlots (n - i) (drop (i * bankSize) image) ≡ bankAt image i ∷ readSlots (n - (i + 1)) (drop ((i + 1) * bankSize) image)
+    → readSlots (n - i) (drop (i * bankSize) image) ≡ slotIn image i ∷ readSlots (n - (i + 1)) (drop ((i + 1) * bankSize) image)
 unfolding readSlots
 slots-here image n i h =
     let m : n - i ≡ suc (n - (i + 1)) = omega arith in
     rw m
-    (ap (λ (l : List ℕ). bankAt image i ∷ readSlots (n - (i + 1)) l)
+    (ap (λ (l : List ℕ). slotIn image i ∷ readSlots (n - (i + 1)) l)
     (drop-drop bankSize (i * bankSize) image ∙ ap (λ (k : ℕ). drop k image) (sym (next i bankSize))))
 
-slots-more : (image : List ℕ) (i : ℕ) → readSlots (suc i) image ≡ readSlots i image ++ (bankAt image i ∷ [])
+slots-more : (image : List ℕ) (i : ℕ) → readSlots (suc i) image ≡ readSlots i image ++ (slotIn image i ∷ [])
 unfolding readSlots
 slots-more image zero = ap (λ (k : ℕ). readBank (take bankSize (drop k image)) ∷ []) (sym (zero-mul bankSize))
 slots-more image (suc i) =
@@ -203,13 +199,13 @@ load-none image w n banks e =
 module _ (image before : List ℕ) (n i : ℕ) (work : List ℕ) (banks : List Entry) (best active : ℕ) (l : Loaded image before n i work banks best active) where
   module _ (work′ : List ℕ) (e : Entry) (best′ active′ : ℕ) (small : n ≤ 16) (here : i < n) (room : n * 131072 ≤ length before)
       (kept : length work′ ≡ length work)
-      (part : work′ ≡ take (i * partSize) work ++ (partOf partSize (bankAt image i) ++ drop ((i + 1) * partSize) work))
-      (filled : e ≡ entryOf (bankAt image i))
-      (takes : (rest : List Slot) → activeFrom i best active (bankAt image i ∷ rest) ≡ activeFrom (suc i) best′ active′ rest) where
+      (part : work′ ≡ take (i * partSize) work ++ (partOf partSize (slotIn image i) ++ drop ((i + 1) * partSize) work))
+      (filled : e ≡ entryOf (slotIn image i))
+      (takes : (rest : List Slot) → activeFrom i best active (slotIn image i ∷ rest) ≡ activeFrom (suc i) best′ active′ rest) where
     abbrev so-far : List Slot
     so-far = readSlots i image
 
-    more : readSlots (i + 1) image ≡ so-far ++ (bankAt image i ∷ [])
+    more : readSlots (i + 1) image ≡ so-far ++ (slotIn image i ∷ [])
     more = ap (λ (j : ℕ). readSlots j image) (add-one i) ∙ slots-more image i
 
     start : i * partSize ≡ i * 131072
@@ -235,14 +231,14 @@ module _ (image before : List ℕ) (n i : ℕ) (work : List ℕ) (banks : List E
           kept = kept ∙ l .kept;
           table =
               ap₂ (λ (t : List Entry) (x : Entry). set t i x) (l .table) filled
-              ∙ table-more so-far (bankAt image i) i (slots-long i image) (omega arith)
+              ∙ table-more so-far (slotIn image i) i (slots-long i image) (omega arith)
               ∙ ap layTable (sym more);
           parts =
               part
-              ∙ ap₂ (λ (x y : List ℕ). x ++ (partOf partSize (bankAt image i) ++ y))
+              ∙ ap₂ (λ (x y : List ℕ). x ++ (partOf partSize (slotIn image i) ++ y))
               (ap (take (i * partSize)) (l .parts) ∙ take-at (layParts so-far) (drop (i * partSize) before) (i * partSize) front) behind
-              ∙ sym (append-assoc (layParts so-far) (partOf partSize (bankAt image i)) (drop ((i + 1) * partSize) before))
-              ∙ ap (λ (x : List ℕ). x ++ drop ((i + 1) * partSize) before) (sym (ap layParts more ∙ parts-more so-far (bankAt image i)));
+              ∙ sym (append-assoc (layParts so-far) (partOf partSize (slotIn image i)) (drop ((i + 1) * partSize) before))
+              ∙ ap (λ (x : List ℕ). x ++ drop ((i + 1) * partSize) before) (sym (ap layParts more ∙ parts-more so-far (slotIn image i)));
           left =
               l .left ∙ ap (activeFrom i best active) (slots-here image n i here) ∙ takes (readSlots (n - (i + 1)) (drop ((i + 1) * bankSize) image))
               ∙ ap (λ (j : ℕ). activeFrom j best′ active′ (readSlots (n - (i + 1)) (drop ((i + 1) * bankSize) image))) (sym (add-one i));

@@ -19,10 +19,10 @@ use Rattle.nvram.specs.declared.state.Nvram.{Nvram}
 use Rattle.nvram.specs.Part.{partSize, FineSlot}
 use Rattle.nvram.specs.Book.{Book, FineSlots, FineBook}
 use Rattle.nvram.specs.Layout.{layState, layWork}
-use Rattle.nvram.specs.Opening.{readSlots, activeFrom, isValid, anyValid, banksOf, bookOf, Opened, opened, refused, opening}
+use Rattle.nvram.specs.Opening.{slotIn, readSlots, activeFrom, isValid, anyValid, banksOf, bookOf, Opened, opened, refused, opening}
 use Rattle.nvram.specs.Contract.{noState, Begun, begun}
 use Rattle.nvram.proofs.SlotLaws.{part-size}
-use Rattle.nvram.proofs.LoadLaws.{bankAt, slots-here, slots-long}
+use Rattle.nvram.proofs.LoadLaws.{slots-here, slots-long}
 
 -- the search for a Valid bank: what is left decides
 module _ (image : List ℕ) (n i : ℕ) where
@@ -30,7 +30,7 @@ module _ (image : List ℕ) (n i : ℕ) where
   Left = anyValid (readSlots n image) ≡ anyValid (readSlots (n - i) (drop (i * bankSize) image))
 
   module _ (l : Left) where
-    module _ (here : i < n) (t : Bool) (e : t ≡ isValid (bankAt image i)) where
+    module _ (here : i < n) (t : Bool) (e : t ≡ isValid (slotIn image i)) where
       abbrev rest : Bool
       rest = anyValid (readSlots (n - (i + 1)) (drop ((i + 1) * bankSize) image))
 
@@ -140,12 +140,12 @@ slot-of s b l empty e = tt
 slot-of s b l invalid e = tt
 slot-of s b l (valid k) e = let f = read-fine s k b (omega arith) e in (f .0, omega (arith, f .1, part-size))
 
-pub bank-fine : (image : List ℕ) (i : ℕ) → Bytes image → (i + 1) * 65536 ≤ length image → FineSlot (bankAt image i)
+pub bank-fine : (image : List ℕ) (i : ℕ) → Bytes image → (i + 1) * 65536 ≤ length image → FineSlot (slotIn image i)
 bank-fine image i b h =
     let s : i * bankSize ≡ i * 65536 = ap (λ (k : ℕ). i * k) bank-size in
     let x = drop (i * bankSize) image in
     slot-of (take bankSize x) (bytes-take bankSize x (bytes-drop (i * bankSize) image b))
-    (simp (length-take, length-drop) (omega (arith, bank-size))) (bankAt image i) refl
+    (simp (length-take, length-drop) (omega (arith, bank-size))) (slotIn image i) refl
 
 slots-fine : (n : ℕ) (image : List ℕ) → Bytes image → n * 65536 ≤ length image → FineSlots (readSlots n image)
 unfolding readSlots

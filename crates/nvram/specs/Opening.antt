@@ -9,7 +9,14 @@ use Rattle.bank.specs.Read.{readBank}
 use Rattle.nvram.specs.Part.{partSize}
 use Rattle.nvram.specs.Book.{Book}
 
--- the image's first n banks, each at its own multiple of 65,536
+-- bank i's bytes, at its own multiple of 65,536
+abbrev pub bankIn : List ℕ → ℕ → List ℕ
+bankIn image i = take bankSize (drop (i * bankSize) image)
+
+abbrev pub slotIn : List ℕ → ℕ → Slot
+slotIn image i = readBank (bankIn image i)
+
+-- the image's first n banks
 unfoldable pub readSlots : ℕ → List ℕ → List Slot
 readSlots zero image = []
 readSlots (suc n) image = readBank (take bankSize image) ∷ readSlots n (drop bankSize image)

@@ -9,12 +9,11 @@ ghost use mathlib.Core.List.{List, _∷_, _++_};
 ghost use Prim.Native.Nat.{suc, _+_, _*_, _≤_, _<_};
 ghost use lib.Dec.{ltb};
 ghost use lib.ListN.{length, take, drop, replicate};
-ghost use Rattle.bank.specs.Bank.{Slot as Read, bankSize, partOf};
-ghost use Rattle.bank.specs.Read.{readBank};
+ghost use Rattle.bank.specs.Bank.{Slot as Read, partOf};
 ghost use Rattle.bank.specs.Answer.{answer};
 ghost use Rattle.nvram.specs.Part.{partSize, entry, entryOf, FineSlot};
 ghost use Rattle.nvram.specs.Layout.{layState, layWork};
-ghost use Rattle.nvram.specs.Opening.{readSlots, activeFrom, isValid, anyValid, bookOf, opening};
+ghost use Rattle.nvram.specs.Opening.{slotIn, readSlots, activeFrom, isValid, anyValid, bookOf, opening};
 ghost use Rattle.nvram.specs.Contract.{noState, begun};
 
 // A refusal's number, or 0, and the state; a refused opening gives zeros and Empty slots.
@@ -56,7 +55,7 @@ fn refused(number: u32) -> Opened
 
 fn is_valid(image: &[u8], i: usize) -> bool
     requires { ⌜ (i < 16) × ((i + 1) * 65536 ≤ length (now image)) ⌝ }
-    ensures { λ r. ⌜ r ≡ isValid (readBank (take bankSize (drop (i * bankSize) (now (image .entry))))) ⌝ }
+    ensures { λ r. ⌜ r ≡ isValid (slotIn (now (image .entry)) i) ⌝ }
 {
     let a = i * Nvram::BANK;
     let e = a + Nvram::BANK;
@@ -146,7 +145,7 @@ impl Best {
 // Bank i of the image, to its part of the work area.
 fn load_bank(image: &[u8], work: &mut [u8], i: usize) -> Slot
     requires { ⌜ (i < 16) × ((i + 1) * 65536 ≤ length (now image)) × ((i + 1) * 131072 ≤ length (now work)) ⌝ }
-    ensures { λ r. ⌜ (r ≡ answer (readBank (take bankSize (drop (i * bankSize) (now (image .entry)))))) × (now (work .exit) ≡ take (i * partSize) (now (work .entry)) ++ (partOf partSize (readBank (take bankSize (drop (i * bankSize) (now (image .entry))))) ++ drop ((i + 1) * partSize) (now (work .entry)))) ⌝ }
+    ensures { λ r. ⌜ (r ≡ answer (slotIn (now (image .entry)) i)) × (now (work .exit) ≡ take (i * partSize) (now (work .entry)) ++ (partOf partSize (slotIn (now (image .entry)) i) ++ drop ((i + 1) * partSize) (now (work .entry)))) ⌝ }
 {
     let a = i * Nvram::BANK;
     let e = a + Nvram::BANK;

@@ -11,7 +11,7 @@ use Rattle.nvram.specs.declared.state.Nvram.{Nvram}
 use Rattle.nvram.specs.Edit.{editedBy}
 use Rattle.nvram.specs.Book.{Book, FineBook, activeSlot, withBank, slotSize}
 use Rattle.nvram.specs.Layout.{view}
-use Rattle.nvram.specs.Opening.{readSlots, banksOf}
+use Rattle.nvram.specs.Opening.{bankIn, readSlots, banksOf}
 use Rattle.nvram.specs.Call.{Call, Answer, committed, erase, refusal, Outcome, step}
 use Rattle.nvram.specs.Tally.{Tally, counted, tallied}
 use Rattle.nvram.proofs.Did.{refuses, reads, edits, writes, moves, overflows, Did, did}
@@ -22,7 +22,7 @@ use Rattle.run.specs.Wear.{activeSize, requested, requests}
 use Rattle.run.specs.Demand.{flashAfter}
 use Rattle.run.proofs.Idle.{Idle, idle-refusal, idle-read, idle-quiet, idle-flash, no-commit, tallied-erase}
 use Rattle.run.proofs.EachLaws.{each-first, each-rest}
-use Rattle.run.proofs.FlashLaws.{bankIn, bank-long}
+use Rattle.run.proofs.FlashLaws.{bank-long}
 use Rattle.run.proofs.ReadLaws.{empty-ff}
 use Rattle.run.proofs.ChoiceLaws.{slot-at, active-most}
 use Rattle.run.proofs.Aged.{aged-edited}

@@ -14,6 +14,7 @@ use Rattle.crc32.proofs.ByTable.{bytes-take, bytes-drop}
 use Rattle.bank.specs.Bank.{bankSize}
 use Rattle.bank.specs.Write.{over}
 use Rattle.bank.proofs.PaddedLaws.{blanks, length-blanks}
+use Rattle.nvram.specs.Opening.{bankIn}
 use Rattle.nvram.proofs.PutLaws.{length-over, drop-over, over-inside}
 use Rattle.run.specs.Flash.{erased, ands, written}
 
@@ -70,10 +71,6 @@ ands-same [] y z = refl
 ands-same (a ∷ x) y z = ap₂ (λ (b : ℕ) (l : List ℕ). b ∷ l) (and-self a) (ands-same x y z)
 
 -- banks
-
--- the bytes of bank i
-abbrev pub bankIn : List ℕ → ℕ → List ℕ
-bankIn flash i = take bankSize (drop (i * bankSize) flash)
 
 -- the flash f′ is f but for bank i, where x stands
 pub record Replaced (f f′ : List ℕ) (i : ℕ) (x : List ℕ) : Type 0 where

@@ -20,11 +20,11 @@ use Rattle.bank.proofs.PaddedLaws.{blanks, padded-more, take-padded, drop-padde
 use Rattle.nvram.specs.Part.{FineSlot}
 use Rattle.nvram.specs.Book.{Book, FineBook, activeSlot, withBank, withActive, withRecords}
 use Rattle.nvram.specs.Commit.{moved, nextBank, nextSlot, request, movedBook, output}
-use Rattle.nvram.specs.Opening.{banksOf}
+use Rattle.nvram.specs.Opening.{bankIn, banksOf}
 use Rattle.nvram.proofs.LayoutLaws.{fine-at}
 use Rattle.nvram.proofs.StepLaws.{moved-fine, next-inside}
 use Rattle.run.specs.Flash.{ands, written, erasedBy}
-use Rattle.run.proofs.FlashLaws.{bankIn, Replaced, untouched, replaced-again, bank-long, ands-ff, erased-bank, written-start}
+use Rattle.run.proofs.FlashLaws.{Replaced, untouched, replaced-again, bank-long, ands-ff, erased-bank, written-start}
 use Rattle.run.proofs.ReadLaws.{padded-back}
 use Rattle.run.proofs.OutputLaws.{length-output, bytes-output, generation-below}
 use Rattle.run.proofs.ChoiceLaws.{empty-not-valid}

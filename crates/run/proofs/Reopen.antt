@@ -17,7 +17,7 @@ use Rattle.nvram.specs.declared.state.Nvram.{Nvram}
 use Rattle.nvram.specs.Edit.{foundIn, valueIn}
 use Rattle.nvram.specs.Part.{partSize}
 use Rattle.nvram.specs.Book.{Book, FineBook, activeSlot, withRecords}
-use Rattle.nvram.specs.Opening.{readSlots, banksOf, Opened, opened, opening}
+use Rattle.nvram.specs.Opening.{bankIn, readSlots, banksOf, Opened, opened, opening}
 use Rattle.nvram.specs.Layout.{view}
 use Rattle.nvram.specs.Call.{Call, lookup, fetch, looked, Outcome, lookupBank, fetchBank, step}
 use Rattle.nvram.specs.Contract.{begun, onBook, call}
@@ -27,7 +27,6 @@ use Rattle.nvram.proofs.LoadLaws.{slots-long}
 use Rattle.nvram.proofs.OpeningLaws.{open-fine}
 use Rattle.run.specs.Run.{openedBook, Page}
 use Rattle.run.specs.Demand.{Reopens}
-use Rattle.run.proofs.FlashLaws.{bankIn}
 use Rattle.run.proofs.ReadLaws.{padded-back}
 use Rattle.run.proofs.ChoiceLaws.{slot-at, any-valid, valid-within, chooses}
 use Rattle.run.proofs.Invariant.{Fixed, Current, enough, slot-fine}

@@ -1,7 +1,8 @@
 use Prim.Native.Nat.{_-_}
 use native.Mathlib.Omega.{arith}
 use borrow.Author.Needs.{needs}
-use Rattle.nvram.proofs.LoadLaws.{bankAt, Loaded, load-none, load-more, load-state, load-work}
+use Rattle.nvram.specs.Opening.{slotIn}
+use Rattle.nvram.proofs.LoadLaws.{Loaded, load-none, load-more, load-state, load-work}
 use Rattle.nvram.proofs.OpeningLaws.{bank-fine}
 use Rattle.nvram.proofs.opening.load.Statement.{statement}
 use Rattle.nvram.proofs.opening.load.Tie as tie
@@ -23,7 +24,7 @@ load-bank-requires c κs = search needs
 
 entry-of-requires : tie.Need-entry-of-requires Inv-loop μ-loop
 entry-of-requires c κs = let s = c .before .before .before .before .before .before .before .before .before .args .image .now in let i = c .before .before .before .before .before .loop .i in (
-  bankAt s i,
+  slotIn s i,
   c .before .before .load-bank .ensures .0,
   bank-fine s i (λ j. omega (arith, c .before .before .before .before .before .before .before .before .shared-slice-known .given j)) (omega arith),
 )
@@ -47,7 +48,7 @@ loop-again : tie.Need-loop-again Inv-loop μ-loop
 loop-again c = let a = c .before .before .before .before .before .before .before .before .before .before .before .args in
     let l = c .before .before .before .before .before .before .before .loop in
     let r = c .before .before .before .before .load-bank in
-    let k = bankAt (a .image .now) (l .i) in
+    let k = slotIn (a .image .now) (l .i) in
     load-more (a .image .now) (a .work .now) (a .n) (l .i) (l .work) (l .banks) (l .best .generation) (l .best .active) (l .inv)
     (r .last .1 .0) (c .before .entry-of .result) (c .after .result .generation) (c .after .result .active)
     (omega arith) (omega arith) (omega arith) (r .kept .1 .0) (r .ensures .1)

@@ -5,7 +5,8 @@ use native.Mathlib.Omega.{arith}
 use lib.ListN.{length, take, drop, length-take, length-drop}
 use Rattle.bank.specs.Bank.{partOf}
 use Rattle.nvram.specs.Part.{partSize}
-use Rattle.nvram.proofs.LoadLaws.{bankAt, serialized-slot, serialized-part, part-back}
+use Rattle.nvram.specs.Opening.{slotIn}
+use Rattle.nvram.proofs.LoadLaws.{serialized-slot, serialized-part, part-back}
 use borrow.Author.Needs.{needs}
 use Rattle.nvram.proofs.opening.load_bank.Statement.{statement}
 use Rattle.nvram.proofs.opening.load_bank.Tie as tie
@@ -56,7 +57,7 @@ returns c = let p = c .before .before .before .before .before .before .before .a
     let out : List ℕ = take (b + 131072 - b) (drop b w) in
     let room : length out ≡ 131072 = simp (length-take, length-drop) (omega arith) in (
       r .ensures .0 ∙ serialized-slot s (p .i) a (a + 65536 - a) refl (omega arith) (omega arith) out room,
-      part-back w (r .last .1 .0) (partOf partSize (bankAt s (p .i))) (p .i) b (b + 131072) refl refl
+      part-back w (r .last .1 .0) (partOf partSize (slotIn s (p .i))) (p .i) b (b + 131072) refl refl
           (r .ensures .1 ∙ serialized-part s (p .i) a (a + 65536 - a) refl (omega arith) (omega arith) out room),
     )
 
