@@ -5,7 +5,7 @@ use image::{number, put_number, HEADER, RECORD};
 use super::book::PART;
 use super::call::What;
 use super::fuzz::Case;
-use super::state::{Entry, State, STATE};
+use super::state::{total_at, Entry, State, STATE};
 use crate::partition::smallest::shown;
 use crate::shrink::shrink;
 
@@ -136,7 +136,7 @@ fn without_record(case: &Case, i: usize, at: usize, len: usize) -> Case {
     let part = &mut less.work[i * PART..(i + 1) * PART];
     part.copy_within(at + len.., at);
     part[PART - len..].fill(0xFF);
-    let total = number(&less.state, 16 + 12 * i) - len as u32;
-    put_number(&mut less.state, 16 + 12 * i, total);
+    let total = number(&less.state, total_at(i)) - len as u32;
+    put_number(&mut less.state, total_at(i), total);
     less
 }

@@ -4,7 +4,7 @@ use image::{number, put_number, BANK, HEADER, RECORD};
 
 use super::book::{size, Bank, Book, Slot, PART};
 use super::fuzz::Case;
-use super::state::STATE;
+use super::state::{entry_at, total_at, STATE};
 use crate::rng::Rng;
 
 /// Numbers at which a check changes its mind.
@@ -79,7 +79,7 @@ fn flip(rng: &mut Rng, bytes: &mut [u8]) {
 
 /// Another number for n, active, or something of a bank's entry.
 fn state_number(rng: &mut Rng, book: &Book, case: &mut Case) {
-    let entry = 12 + 12 * rng.below(book.slots.len());
+    let entry = entry_at(rng.below(book.slots.len()));
     let at = rng.pick(&[0, 4, entry, entry + 4, entry + 8]);
     if case.state.len() < at + 4 {
         return;
@@ -92,7 +92,7 @@ fn state_number(rng: &mut Rng, book: &Book, case: &mut Case) {
 
 /// A number of an entry from n on.
 fn behind_n(rng: &mut Rng, book: &Book, case: &mut Case) {
-    let first = 12 + 12 * book.slots.len();
+    let first = entry_at(book.slots.len());
     if first < STATE && case.state.len() >= STATE {
         let at = first + 4 * rng.below((STATE - first) / 4);
         put_number(&mut case.state, at, rng.pick(&NUMBERS[1..]));
@@ -180,7 +180,7 @@ fn shorten(rng: &mut Rng, bank: &Bank, case: &mut Case, i: usize) {
         case.work[i * PART + shorter..i * PART + total].fill(0xFF);
     }
     if what != 1 && case.state.len() >= STATE {
-        put_number(&mut case.state, 16 + 12 * i, shorter as u32);
+        put_number(&mut case.state, total_at(i), shorter as u32);
     }
 }
 

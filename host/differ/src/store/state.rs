@@ -6,9 +6,12 @@ use std::fmt::{self, Display, Formatter};
 use image::{number, put_number};
 
 /// Bytes of a state.
-pub const STATE: usize = 204;
+pub const STATE: usize = entry_at(ENTRIES);
 /// Entries of its table.
 pub const ENTRIES: usize = 16;
+/// Bytes in front of the table, and of an entry.
+const HEAD: usize = 12;
+const ENTRY: usize = 12;
 
 pub const EMPTY: u32 = 0;
 pub const INVALID: u32 = 1;
@@ -30,14 +33,27 @@ pub struct Entry {
     pub usable: u32,
 }
 
+/// Where bank i's entry begins: kind, then total, then usable.
+pub const fn entry_at(i: usize) -> usize {
+    HEAD + ENTRY * i
+}
+
+pub const fn total_at(i: usize) -> usize {
+    entry_at(i) + 4
+}
+
+pub const fn usable_at(i: usize) -> usize {
+    entry_at(i) + 8
+}
+
 impl State {
-    /// The numbers in the first 204 bytes, if there are as many.
+    /// The numbers in a state's bytes, if there are as many.
     pub fn read(bytes: &[u8]) -> Option<State> {
         let bytes = bytes.get(..STATE)?;
         let entry = |i: usize| Entry {
-            kind: number(bytes, 12 + 12 * i),
-            total: number(bytes, 16 + 12 * i),
-            usable: number(bytes, 20 + 12 * i),
+            kind: number(bytes, entry_at(i)),
+            total: number(bytes, total_at(i)),
+            usable: number(bytes, usable_at(i)),
         };
         let mut entries = [Entry::default(); ENTRIES];
         entries

@@ -59,6 +59,7 @@ mod tests {
     use super::super::faulty::{Committed, Faulty};
     use super::super::lent::Port;
     use super::super::run::compare;
+    use super::super::state::usable_at;
     use super::*;
     use image::put_number;
 
@@ -79,7 +80,7 @@ mod tests {
             let entry = done.told().entries[active];
             // The usable bytes of the entry, below its total: a second commit moves.
             if !done.moved() && entry.total as usize + STRIKES.1 > BANK {
-                put_number(done.state, 20 + 12 * active, 24);
+                put_number(done.state, usable_at(active), HEADER as u32);
                 let (state, work) = (&mut *done.state, &mut *done.work);
                 done.number = feqyondil::lent::commit(state, work, done.out, done.requests);
             }
