@@ -78,16 +78,11 @@ record At (bs w : List ℕ) (s : Nvram) : Type 0 where
   fine : FineBook book
   tally : s .tally < 4294967296
 
--- no call of a list is refused by 12
-abbrev No12 : List run.Event → Type 0
-No12 [] = Unit {0}
-No12 (f ∷ fs) = (number (f .answer) ≢ 12) × No12 fs
-
 record Followed (s : Nvram) (w : List ℕ) (es : List Event) : Type 0 where
   events : List run.Event
   runs : run.Run s w events
   same : AllSame es events
-  never : Never 12 es → No12 events
+  never : Never 12 es → (b : Book) → run.Never 12 (run.pages b events)
 
 -- fetched bytes have no number
 fetch-number : (b : Book) (key : List ℕ) (typ : VarType) (o : Outcome) → Did b (fetch key typ) o → number (o .answer) ≡ 0
@@ -96,7 +91,7 @@ fetch-number b key typ o (reads a x r) = ap number r
 
 not-12 : (b : Book) (c : Call) (x o : List ℕ) (r : ℕ) (q o′ : List ℕ) → Tells c (step b c .answer) x o r q o′ → refusedBy c r ≢ 12
     → number (step b c .answer) ≢ 12
-not-12 b (edit e) x o r q o′ t h p = h (t ∙ p)
+not-12 b (edit e) x o r q o′ t h p = h (t .0 ∙ p)
 not-12 b (lookup key typ) x o r q o′ t h p = h (t .0 ∙ p)
 not-12 b (fetch key typ) x o r q o′ t h p = absurd (omega (arith, fetch-number b key typ (step b (fetch key typ)) (did b (fetch key typ))))
 not-12 b (commit room) x o r q o′ t h p = h (t .returned ∙ p)
@@ -157,8 +152,8 @@ module _ (bs w : List ℕ) (s : Nvram) (a : At bs w s) (e : Event) (y : ByteCall
       (subst (λ (x : Answer). Tells c x (event .out) (e .lent) (e .returned) (e .fields) (e .output)) (kept .answer) (same .tells)) h (sym (ap number (kept .answer)) ∙ p)
 
 follow : (bs w : List ℕ) (s : Nvram) (es : List Event) → At bs w s → Run bs w es → Followed s w es
-unfolding event
-follow bs w s [] a r = record { events = []; runs = tt; same = tt; never = λ h. tt }
+unfolding event run.pages
+follow bs w s [] a r = record { events = []; runs = tt; same = tt; never = λ h b. each-none _ }
 follow bs w s (e ∷ es) a r =
     let y = r .0 in
     let d = r .1 in
@@ -167,13 +162,8 @@ follow bs w s (e ∷ es) a r =
       events = event bs w s a e y d ∷ m .events;
       runs = (y, does bs w s a e y d, m .runs);
       same = (same bs w s a e y d, m .same);
-      never = λ h. (never-12 bs w s a e y d (h .0), m .never (h .1));
+      never = λ h b. each-more _ _ _ (never-12 bs w s a e y d (h .0)) (m .never (h .1) (step b (e .call) .after));
     }
-
-never-of : (b : Book) (fs : List run.Event) → No12 fs → run.Never 12 (run.pages b fs)
-unfolding run.pages
-never-of b [] n = each-none _
-never-of b (f ∷ fs) n = each-more _ _ _ (n .0) (never-of (step b (f .call) .after) fs (n .1))
 
 -- an opening that is accepted had bytes enough for the state
 begins : (image bs w bs′ w′ : List ℕ) → Opens image bs w 0 bs′ w′
@@ -212,5 +202,5 @@ exported-3 image bs w bs′ w′ es y o r h =
       opens = opens;
       runs = m .runs;
       same = m .same;
-      demand = demand-3 image w (x .state) w′ (m .events) opens (m .runs) (never-of (run.openedBook image) (m .events) (m .never h));
+      demand = demand-3 image w (x .state) w′ (m .events) opens (m .runs) (m .never h (run.openedBook image));
     }

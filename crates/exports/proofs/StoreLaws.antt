@@ -83,7 +83,7 @@ pub removes : (key : List ℕ) (typ : VarType) (bs w : List ℕ) (s : Nvram) →
     → (r : ℕ) (s′ : Nvram) (w′ : List ℕ) → Does (edit (remove key typ)) s w (edited r) [] s′ w′
     → Calls (edit (remove key typ)) bs w [] r [] bs w′ []
 removes key typ bs w s e k kw r s′ w′ d =
-    keeps (edit (remove key typ)) bs w [] r [] [] s e (edited r) [] refl w′ k
+    keeps (edit (remove key typ)) bs w [] r [] [] s e (edited r) [] (refl, refl, refl) w′ k
     (record { answer = d .answer; out = d .out; state = remove-stays key typ s w kw (read-fine bs s k e .banks-long); work = d .work })
 
 -- an opening

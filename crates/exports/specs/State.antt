@@ -15,6 +15,8 @@ use Rattle.nvram.specs.Part.{entry}
 use Rattle.nvram.specs.Contract.{noState}
 use Rattle.exports.specs.declared.state.Loaded.{Loaded}
 
+-- bytes in front of the entries, of an entry, and of a state
+
 abbrev pub stateHead : ℕ
 stateHead = 12
 

@@ -69,11 +69,11 @@ pub record Written (a : Answer) (x o : List ℕ) (r : ℕ) (q o′ : List ℕ) :
   pub rest : drop (lengthOf a) o′ ≡ drop (lengthOf a) o
 
 -- what a caller is told of an answer a and the bytes x handed back: the function returns r, answers the fields q, and leaves a lent output o
--- as o′. An edit has neither fields nor output, a lookup no output; a value's call returns the length, and copies as far as the output reaches
+-- as o′. An edit has no fields, and neither it nor a lookup an output; a value's call returns the length, and copies as far as the output reaches
 abbrev pub Tells : Call → Answer → List ℕ → List ℕ → ℕ → List ℕ → List ℕ → Type 0
-Tells (edit e) a x o r q o′ = r ≡ number a
-Tells (lookup key typ) a x o r q o′ = (r ≡ number a) × (q ≡ fieldsOf a)
-Tells (fetch key typ) a x o r q o′ = (r ≡ length x) × (o′ ≡ onto x o)
+Tells (edit e) a x o r q o′ = (r ≡ number a) × (q ≡ []) × (o′ ≡ o)
+Tells (lookup key typ) a x o r q o′ = (r ≡ number a) × (q ≡ fieldsOf a) × (o′ ≡ o)
+Tells (fetch key typ) a x o r q o′ = (r ≡ length x) × (q ≡ []) × (o′ ≡ onto x o)
 Tells (commit room) a x o r q o′ = Written a x o r q o′
 Tells (wholeImage room) a x o r q o′ = Written a x o r q o′
 

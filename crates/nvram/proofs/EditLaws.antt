@@ -15,7 +15,7 @@ use Rattle.bank.specs.Record.{Record, sizeOf, sizes, recordBytes, recordsBytes}
 use Rattle.bank.specs.Bank.{Bank, valid}
 use Rattle.bank.specs.Figures.{total}
 use Rattle.bank.specs.Write.{over}
-use Rattle.bank.specs.WellFormed.{FineRecord, FineRecords}
+use Rattle.bank.specs.WellFormed.{FineRecords}
 use Rattle.bank.proofs.LengthLaws.{length-record, length-records}
 use Rattle.nvram.specs.declared.state.Kind.the-variants.{Empty, Valid}
 use Rattle.nvram.specs.declared.state.Entry.{Entry}
@@ -27,7 +27,7 @@ use Rattle.nvram.specs.Layout.{layTable, layState, setEntry, layWork}
 use Rattle.nvram.specs.Ready.{activeEntry}
 use Rattle.nvram.specs.Call.{edit, edited, change, editAs, editBank, step}
 use Rattle.nvram.specs.Contract.{Does}
-use Rattle.nvram.proofs.RecordLists.{fine-removed, sizes-removed, fine-fresh, attributes-fit, fine-append, records-append, sizes-append}
+use Rattle.nvram.proofs.RecordLists.{fine-removed, sizes-removed, records-append, guid-length, sizes-edited, fine-edited}
 use Rattle.nvram.proofs.SlotLaws.{part-size}
 use Rattle.nvram.proofs.LayoutLaws.{table-set}
 use Rattle.nvram.proofs.PutLaws.{over-mid, length-over, over-over}
@@ -126,16 +126,13 @@ module _ {s : Nvram} {w : List ℕ} (g : Sound s w) (v : activeEntry s .kind ≡
       does-8 n q h = does-refused (insert m key value typ) n (q ∙ sym refused-by) h
 
       module _ (kb : Bytes key) (vb : Bytes value) (room : now .total + sizeOf new ≤ 131072) where
-        new-fine : FineRecord new
-        unfolding sizeOf
-        new-fine = let r = room in fine-fresh (attributesOf m) key value typ (attributes-fit m) kb vb (omega arith) (omega arith)
-
         more-fine : FineRecords more
-        more-fine = fine-append less (new ∷ []) less-fine (new-fine, tt)
+        unfolding editedBy grows
+        more-fine = fine-edited (insert m key value typ) rs (kb, vb) (omega (arith, room)) rs-fine
 
         more-sizes : sizes more ≡ sizes rs + sizeOf new
-        unfolding sizes
-        more-sizes = sizes-append less (new ∷ []) ∙ omega (arith, sizes-removed key typ rs)
+        unfolding editedBy grows
+        more-sizes = sizes-edited (insert m key value typ) rs
 
         fits : 24 + sizes rs + sizeOf new ≤ partSize
         fits = omega (arith, room, total-is g v, part-size)
@@ -157,7 +154,7 @@ module _ {s : Nvram} {w : List ℕ} (g : Sound s w) (v : activeEntry s .kind ≡
         more-bytes = records-append less (new ∷ []) ∙ ap (λ (l : List ℕ). recordsBytes less ++ l) (append-nil (recordBytes new))
 
         new-length : length (recordBytes new) ≡ sizeOf new
-        new-length = length-record new (new-fine .guid-long)
+        new-length = length-record new (guid-length typ)
 
         work-more : over from (recordsBytes less ++ recordBytes new) w ≡ layWork (withActive (book g) (withRecords (bank g v) more)) w
         unfolding layWork

@@ -23,12 +23,12 @@ records-append [] qs = refl
 records-append (r ∷ rs) qs =
     ap (λ (l : List ℕ). recordBytes r ++ l) (records-append rs qs) ∙ sym (append-assoc (recordBytes r) (recordsBytes rs) (recordsBytes qs))
 
-pub sizes-append : (rs qs : List Record) → sizes (rs ++ qs) ≡ sizes rs + sizes qs
+sizes-append : (rs qs : List Record) → sizes (rs ++ qs) ≡ sizes rs + sizes qs
 unfolding sizes
 sizes-append [] qs = omega arith
 sizes-append (r ∷ rs) qs = omega (arith, sizes-append rs qs)
 
-pub fine-append : (rs qs : List Record) → FineRecords rs → FineRecords qs → FineRecords (rs ++ qs)
+fine-append : (rs qs : List Record) → FineRecords rs → FineRecords qs → FineRecords (rs ++ qs)
 fine-append [] qs f g = g
 fine-append (r ∷ rs) qs f g = (f .0, fine-append rs qs (f .1) g)
 
@@ -98,7 +98,7 @@ unfolding below
 guid-bytes Common = below-bytes (guidOf Common) refl
 guid-bytes System = below-bytes (guidOf System) refl
 
-pub fine-fresh : (attributes : ℕ) (key value : List ℕ) (typ : VarType) → attributes < 4294967296 → Bytes key → Bytes value → length key ≤ 131072
+fine-fresh : (attributes : ℕ) (key value : List ℕ) (typ : VarType) → attributes < 4294967296 → Bytes key → Bytes value → length key ≤ 131072
     → length value ≤ 131072
     → FineRecord (fresh attributes key value typ)
 fine-fresh attributes key value typ a b d k v =
@@ -115,7 +115,7 @@ fine-fresh attributes key value typ a b d k v =
 
 -- edits
 
-pub attributes-fit : (m : Manner) → attributesOf m < 4294967296
+attributes-fit : (m : Manner) → attributesOf m < 4294967296
 attributes-fit plain = omega arith
 
 pub sizes-edited : (e : Edit) (rs : List Record) → sizes (editedBy e rs) ≡ sizes rs + grows e

@@ -194,7 +194,7 @@ module _ (b₀ : Book) (f : List ℕ) (b : Book) (m : ℕ) (first : Page) (betwe
   abbrev b₂ : Book
   b₂ = endOf (first .after) between
 
-  -- D may be anything that a move's least drop of the total is not below
+  -- D may be any number up to a move's least drop of the total
   pub wear-within : (L D : ℕ) → D + L ≤ suc S → Within L (first ∷ between) → b₀ .n * D ≤ insertedBytes between
   wear-within L D d h =
       let s = a .0 in

@@ -17,7 +17,7 @@ same-length : tie.Need-same-length
 same-length c = search needs
 
 returns : tie.Need-returns
-returns c = let a = c .before .before .before .before .before .before .before .before .args in calls-6 (edit (insert plain (a .key .now) (a .value .now) (typeOf (a .typ)))) (a .state .now) (a .work .now) [] _ [] [] (load-none _ _ (c .before .before .load .ensures) (not-true _ (c .if1 .taken))) refl
+returns c = let a = c .before .before .before .before .before .before .before .before .args in calls-6 (edit (insert plain (a .key .now) (a .value .now) (typeOf (a .typ)))) (a .state .now) (a .work .now) [] _ [] [] (load-none _ _ (c .before .before .load .ensures) (not-true _ (c .if1 .taken))) (refl, refl, refl)
 
 var-type-requires : tie.Need-var-type-requires
 var-type-requires c κs = search needs
@@ -38,7 +38,7 @@ returns-2 : tie.Need-returns-2
 returns-2 c = let a = c .before .before .before .before .before .before .before .before .before .before .before .before .before .before .before .before .before .before .before .args in
     let t = c .before .before .before .before .before .before .before .before .var-type .ensures in
     calls (edit (insert plain (a .key .now) (a .value .now) (typeOf (a .typ)))) (a .state .now) (a .work .now) [] _ [] [] _ (load-some _ _ (c .before .before .before .before .before .before .before .before .before .before .before .before .before .load .ensures) (not-false _ (c .before .before .before .before .before .before .before .before .before .before .before .if1 .left)))
-    (edited (c .before .before .before .before .before .before .before .insert-variable .result .number)) [] refl _ _ _ (rw t at (c .before .before .before .before .before .before .before .insert-variable .ensures)) (c .before .before .store .ensures)
+    (edited (c .before .before .before .before .before .before .before .insert-variable .result .number)) [] (refl, refl, refl) _ _ _ (rw t at (c .before .before .before .before .before .before .before .insert-variable .ensures)) (c .before .before .store .ensures)
 
 pub feqyondil-insert-spec : {M : Type 1} → statement M
 feqyondil-insert-spec =

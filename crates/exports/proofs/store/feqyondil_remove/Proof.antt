@@ -14,7 +14,7 @@ load-requires : tie.Need-load-requires
 load-requires c κs = search needs
 
 returns : tie.Need-returns
-returns c = let a = c .before .before .before .before .before .before .args in calls-6 (edit (remove (a .key .now) (typeOf (a .typ)))) (a .state .now) (a .work .now) [] _ [] [] (load-none _ _ (c .before .before .load .ensures) (not-true _ (c .if1 .taken))) refl
+returns c = let a = c .before .before .before .before .before .before .args in calls-6 (edit (remove (a .key .now) (typeOf (a .typ)))) (a .state .now) (a .work .now) [] _ [] [] (load-none _ _ (c .before .before .load .ensures) (not-true _ (c .if1 .taken))) (refl, refl, refl)
 
 var-type-requires : tie.Need-var-type-requires
 var-type-requires c κs = search needs
