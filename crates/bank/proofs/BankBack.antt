@@ -5,7 +5,7 @@ use mathlib.Core.List.{List, [], _∷_, _++_, append-assoc}
 use mathlib.Core.Bool.{Bool, true, false, cond}
 use native.Mathlib.Omega.{arith}
 use lib.Dec.{ltb}
-use lib.ListN.{take, drop, replicate, length-replicate, replicate-append-replicate}
+use lib.ListN.{take, drop, replicate, length-replicate, replicate-append-replicate, length}
 use lib.Seq.{take-at, drop-at, drop-drop}
 use borrow.Author.Tests.{ltb-true, ltb-false}
 use Rattle.buffers.specs.Bytes.{allBlank, countFF}
@@ -14,29 +14,27 @@ use Rattle.bank.specs.declared.header.StoreHeader.{StoreHeader}
 use Rattle.bank.specs.declared.partition.Stop.the-variants.{Blank}
 use Rattle.bank.specs.Header.{headerBytes}
 use Rattle.bank.specs.Record.{Record, sizeOf, sizes, recordBytes, recordsBytes}
-use Rattle.bank.specs.Bank.{invalid, valid}
-use Rattle.bank.specs.Read.{got, halt, found, Walk, prepend, walkFrom, usableAt, bankOf, spoils, slotOf, afterHead, readBank}
+use Rattle.bank.specs.Bank.{invalid, valid, bankOf, Bank, padded, bankBytes}
+use Rattle.bank.specs.Read.{got, halt, found, Walk, withFirst, walkFrom, usableAt, spoils, slotOf, afterHead, readBank}
 use Rattle.bank.specs.WellFormed.{FineRecords, FineHeader}
-use Rattle.bank.proofs.WalkLaws.{found-blank, walk-end, walk-got, walk-halt}
-use Rattle.bank.proofs.LengthLaws.{length-header, length-record, length-records}
+use Rattle.bank.specs.Totals.{total}
+use Rattle.bank.proofs.WalkLaws.{size-pos, found-blank, walk-end, walk-got, walk-halt}
+use Rattle.bank.proofs.LengthLaws.{length-header, length-record, length-records, length-bank}
 use Rattle.bank.proofs.HeaderLaws.{header-back}
 use Rattle.bank.proofs.RecordBack.{record-back}
+use Rattle.bank.proofs.PaddedLaws.{blanks, padded-more}
 
 unfoldable pub prependAll : List Record → Walk → Walk
 prependAll [] w = w
-prependAll (r ∷ rs) w = prepend r (prependAll rs w)
-
-size-pos : (r : Record) → 36 < sizeOf r
-unfolding sizeOf
-size-pos r = omega arith
+prependAll (r ∷ rs) w = withFirst r (prependAll rs w)
 
 -- records that are written from an offset on are read from there, whatever follows them
-pub records-back : (rs : List Record) (s rest : List ℕ) (size at : ℕ) → FineRecords rs → drop at s ≡ recordsBytes rs ++ rest
+pub walk-records : (rs : List Record) (s rest : List ℕ) (size at : ℕ) → FineRecords rs → drop at s ≡ recordsBytes rs ++ rest
     → at + sizes rs ≤ size
     → walkFrom s size at ≡ prependAll rs (walkFrom s size (at + sizes rs))
 unfolding recordsBytes sizes prependAll
-records-back [] s rest size at f e h = ap (walkFrom s size) (omega arith)
-records-back (r ∷ rs) s rest size at f e h =
+walk-records [] s rest size at f e h = ap (walkFrom s size) (omega arith)
+walk-records (r ∷ rs) s rest size at f e h =
     let q : drop at s ≡ recordBytes r ++ (recordsBytes rs ++ rest) = e ∙ append-assoc (recordBytes r) (recordsBytes rs) rest in
     let g : found (drop at s) ≡ got r = rw q (record-back r (recordsBytes rs ++ rest) (f .0)) in
     let d : drop (at + sizeOf r) s ≡ recordsBytes rs ++ rest =
@@ -44,8 +42,8 @@ records-back (r ∷ rs) s rest size at f e h =
     ∙ drop-at (recordBytes r) (recordsBytes rs ++ rest) (sizeOf r) (length-record r (f .0 .guid-long)) in
     let k : at + sizeOf r + sizes rs ≡ at + (sizeOf r + sizes rs) = omega arith in
     walk-got s size at r (omega (arith, size-pos r)) g
-    ∙ ap (prepend r)
-    (records-back rs s rest size (at + sizeOf r) (f .1) d (omega arith) ∙ ap (λ (n : ℕ). prependAll rs (walkFrom s size n)) k)
+    ∙ ap (withFirst r)
+    (walk-records rs s rest size (at + sizeOf r) (f .1) d (omega arith) ∙ ap (λ (n : ℕ). prependAll rs (walkFrom s size n)) k)
 
 -- the free bytes after them
 
@@ -71,10 +69,10 @@ pub record Free (s : List ℕ) (size at : ℕ) (w : Walk) : Type 0 where
   pub usable : usableAt (w .stop) s size (w .at) ≡ size
   pub reads : spoils (w .stop) ≡ false
 
-pub free-back : (s rest : List ℕ) (size at : ℕ) → at ≤ size → drop at s ≡ replicate (size - at) 255 ++ rest
+pub walk-free : (s rest : List ℕ) (size at : ℕ) → at ≤ size → drop at s ≡ replicate (size - at) 255 ++ rest
     → Free s size at (walkFrom s size at)
 unfolding usableAt
-free-back s rest size at h e = go (ltb (at + 36) size) refl
+walk-free s rest size at h e = go (ltb (at + 36) size) refl
   where
     go : (t : Bool) → ltb (at + 36) size ≡ t → Free s size at (walkFrom s size at)
     go false t =
@@ -93,7 +91,7 @@ free-back s rest size at h e = go (ltb (at + 36) size) refl
 pub prepend-all : (rs : List Record) (w : Walk) → w .records ≡ [] → prependAll rs w ≡ record { records = rs; stop = w .stop; at = w .at }
 unfolding prependAll
 prepend-all [] w e = λ i. record { records = e i; stop = w .stop; at = w .at }
-prepend-all (r ∷ rs) w e = ap (prepend r) (prepend-all rs w e)
+prepend-all (r ∷ rs) w e = ap (withFirst r) (prepend-all rs w e)
 
 -- the bank comes back whole: header, records in order with all fields, usable = size
 pub bank-back : (h : StoreHeader) (rs : List Record) (rest : List ℕ) → FineHeader h → FineRecords rs → 24 + sizes rs ≤ h .size
@@ -107,8 +105,23 @@ bank-back h rs rest fh fr le =
     let v : drop (24 + sizes rs) s ≡ free ++ rest =
     sym (drop-drop (sizes rs) 24 s) ∙ ap (drop (sizes rs)) d ∙ drop-at (recordsBytes rs) (free ++ rest) (sizes rs) (length-records rs fr) in
     let w = walkFrom s (h .size) (24 + sizes rs) in
-    let k = free-back s rest (h .size) (24 + sizes rs) le v in
+    let k = walk-free s rest (h .size) (24 + sizes rs) le v in
     let z : walkFrom s (h .size) 24 ≡ record { records = rs; stop = w .stop; at = w .at } =
-    records-back rs s (free ++ rest) (h .size) 24 fr d le ∙ prepend-all rs w (k .none) in
+    walk-records rs s (free ++ rest) (h .size) 24 fr d le ∙ prepend-all rs w (k .none) in
     ap (afterHead s) (header-back h (recordsBytes rs ++ (free ++ rest)) fh) ∙ ap (slotOf s h) z
     ∙ ap₂ (λ (t : Bool) (u : ℕ). cond t invalid (valid (bankOf h rs u))) (k .reads) (k .usable)
+
+-- the round trip, of a bank that fits its size
+pub padded-back : (k : Bank) (n : ℕ) → FineHeader (k .header) → FineRecords (k .records) → total k ≤ k .header .size → k .header .size ≤ n
+    → readBank (padded n (bankBytes k)) ≡ valid (bankOf (k .header) (k .records) (k .header .size))
+unfolding total bankBytes padded
+padded-back k n fh fr le h =
+    let size = k .header .size in
+    let x : List ℕ = headerBytes (k .header) ++ recordsBytes (k .records) in
+    let l : length x ≡ 24 + sizes (k .records) = length-bank k fr in
+    let e : padded n x ≡ headerBytes (k .header) ++ (recordsBytes (k .records) ++ (blanks (size - (24 + sizes (k .records))) ++ blanks (n - size))) =
+    padded-more x size n (omega (arith, l)) h
+    ∙ append-assoc x (blanks (size - length x)) (blanks (n - size))
+    ∙ append-assoc (headerBytes (k .header)) (recordsBytes (k .records)) (blanks (size - length x) ++ blanks (n - size))
+    ∙ ap (λ (i : ℕ). headerBytes (k .header) ++ (recordsBytes (k .records) ++ (blanks (size - i) ++ blanks (n - size)))) l in
+    ap readBank e ∙ bank-back (k .header) (k .records) (blanks (n - size)) fh fr le

@@ -18,9 +18,9 @@ use Rattle.bank.specs.declared.partition.Stop.the-variants.{Blank, Start
 use Rattle.bank.specs.Number.{u16At, u32At}
 use Rattle.bank.specs.Header.{signed, headerOf, readHeader}
 use Rattle.bank.specs.Record.{Record, recordOf, sizeOf, nameAt, valueAt, sizeAt}
-use Rattle.bank.specs.Bank.{Bank, invalid, valid}
-use Rattle.bank.specs.Read.{Found, got, halt, found, Walk, prepend, walkFrom, usableAt, bankOf, spoils, slotOf, afterHead, readBank}
-use Rattle.bank.specs.Figures.{total}
+use Rattle.bank.specs.Bank.{Bank, invalid, valid, bankOf}
+use Rattle.bank.specs.Read.{Item, got, halt, found, Walk, withFirst, walkFrom, usableAt, spoils, slotOf, afterHead, readBank}
+use Rattle.bank.specs.Totals.{total}
 use Rattle.bank.proofs.WalkLaws.{Stands, stands-size, found-got, walk-end, walk-got, walk-halt, walk-ind, walk-at}
 use Rattle.bank.proofs.ReadBank.{came, came-total}
 
@@ -121,7 +121,7 @@ module _ (s t : List ℕ) (long : length t ≡ length s) (head : (i : ℕ) → i
       (by-tests (allBlank (take 36 s)) (eqb (u16At s 0) 0x55AA) (leb (sizeAt s) (length s)) (eqb (nameAt s) 0)
       (eqb (u32At s 32) (crc32Of (take (valueAt s) (drop (36 + nameAt s) s)))) (recordOf s) _ c e z)
     where
-      by-tests : (a b c d e : Bool) (r : Record) (o : Found) (k : Stop)
+      by-tests : (a b c d e : Bool) (r : Record) (o : Item) (k : Stop)
           → cond a (halt Blank) (cond b (cond c (cond d (halt Name) (cond e (got r) (halt Crc))) (halt Length)) (halt Start)) ≡ halt k
           → spoils k ≡ false
           → cond a (halt Blank) (cond b (cond c (cond d (halt Name) o) (halt Length)) (halt Start)) ≡ halt k
@@ -237,13 +237,13 @@ module _ (s t : List ℕ) (long : length t ≡ length s) (size n : ℕ) (reach :
     where
       more : (at : ℕ) (r : Record) → at + 36 < size → Stands (drop at s) r
           → Repeats (at + sizeOf r) (walkFrom s size (at + sizeOf r))
-          → Repeats at (prepend r (walkFrom s size (at + sizeOf r)))
+          → Repeats at (withFirst r (walkFrom s size (at + sizeOf r)))
       more at r l k ih h z f =
           let w = walkFrom s size (at + sizeOf r) in
           let e : at + sizeOf r ≤ n = omega (arith, walk-at s size (at + sizeOf r)) in
           let g = ih h z (λ i a b d. f i (omega arith) b (ignored-behind at r (w .records) i a d)) in
           record {
-            walks = walk-got t size at r l (again-got at r (w .records) k e f) ∙ ap (prepend r) (g .walks);
+            walks = walk-got t size at r l (again-got at r (w .records) k e f) ∙ ap (withFirst r) (g .walks);
             usable = g .usable;
           }
 

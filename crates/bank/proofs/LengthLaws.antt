@@ -10,7 +10,7 @@ use Rattle.bank.specs.Header.{headerBytes}
 use Rattle.bank.specs.Record.{Record, sizeOf, sizes, varHeaderBytes, recordBytes, recordsBytes}
 use Rattle.bank.specs.Bank.{Bank, Slot, empty, invalid, valid, padded, bankBytes, partOf}
 use Rattle.bank.specs.WellFormed.{FineRecords}
-use Rattle.bank.specs.Figures.{total}
+use Rattle.bank.specs.Totals.{total}
 use Rattle.bank.proofs.NumberLaws.{length-le32}
 
 pub length-header : (h : StoreHeader) → length (headerBytes h) ≡ 24
@@ -43,12 +43,12 @@ unfolding padded
 length-padded n s h = simp (length-append, length-replicate) (omega arith)
 
 -- a part holds what a bank's total allows
-abbrev pub Holds : ℕ → Slot → Type 0
-Holds n empty = Unit {0}
-Holds n invalid = Unit {0}
-Holds n (valid b) = FineRecords (b .records) × (total b ≤ n)
+abbrev pub FitsPart : ℕ → Slot → Type 0
+FitsPart n empty = Unit {0}
+FitsPart n invalid = Unit {0}
+FitsPart n (valid b) = FineRecords (b .records) × (total b ≤ n)
 
-pub length-part : (n : ℕ) (k : Slot) → Holds n k → length (partOf n k) ≡ n
+pub length-part : (n : ℕ) (k : Slot) → FitsPart n k → length (partOf n k) ≡ n
 unfolding partOf
 length-part n empty h = length-replicate n 255
 length-part n invalid h = length-replicate n 255

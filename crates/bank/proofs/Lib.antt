@@ -9,8 +9,10 @@ pub mod Normal
 pub mod ReadFine
 pub mod ReadBank
 pub mod PartitionLaws
-pub mod LeafLaws
+pub mod FieldLaws
 pub mod NormalizeLaws
 pub mod WriteLaws
 pub mod SerializeLaws
 pub mod IgnoreLaws
+pub mod ReadLaws
+pub mod OutputLaws

@@ -9,7 +9,7 @@ use lib.Seq.{drop-cons, drop-drop, take-all, set-at, length-take-le}
 use Rattle.crc32.specs.Crc32.{Bytes}
 use Rattle.bank.specs.Number.{u16At, u32At, le32}
 use Rattle.bank.specs.Record.{recordOf, nameAt, valueAt, varHeaderBytes, recordBytes}
-use Rattle.bank.specs.Write.{Whole}
+use Rattle.bank.specs.Raw.{Whole}
 use Rattle.bank.proofs.NumberLaws.{length-le32}
 
 -- the bytes of a number that was read

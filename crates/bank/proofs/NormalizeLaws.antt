@@ -5,14 +5,15 @@ use mathlib.Core.List.{List, _++_, append-assoc, append-nil}
 use native.Mathlib.Omega.{arith}
 use lib.ListN.{length, set, take, drop, drop-of-length-le, take-append-drop, length-append, length-drop, length-set, List·getD-append}
 use lib.Seq.{take-at, drop-at, set-append-left, drop-drop, length-take-le}
-use Rattle.buffers.proofs.Walk.{tail}
+use Rattle.buffers.specs.Bytes.{over}
+use Rattle.buffers.proofs.LoopSteps.{tail}
 use Rattle.bank.specs.Number.{u32At}
 use Rattle.bank.specs.Record.{Record, recordOf, nameAt, valueAt, sizeAt, recordBytes, recordsBytes}
-use Rattle.bank.specs.Write.{over, Whole, Raw, none, one}
+use Rattle.bank.specs.Raw.{Whole, Raw, none, one}
 use Rattle.bank.proofs.Normal.{normal}
 
 -- what is left to do in s from an offset on, and what it comes to
-pub record Left (total : ℕ) (target s : List ℕ) (at : ℕ) : Type 0 where
+pub record ToNormalize (total : ℕ) (target s : List ℕ) (at : ℕ) : Type 0 where
   pub front : List ℕ
   pub bytes : List ℕ
   pub rest : List ℕ
@@ -54,19 +55,19 @@ module _ (x t : List ℕ) (w : Whole x) where
       ∙ ap (λ (y : List ℕ). y ++ t) (normal x w)
 
 -- one turn: n is the size read at the offset, y what normalizing leaves of the part from there
-pub record Turn (total : ℕ) (target s : List ℕ) (at : ℕ) : Type 0 where
+pub record NormalizeTurn (total : ℕ) (target s : List ℕ) (at : ℕ) : Type 0 where
   pub named : 0 < nameAt (drop at s)
   pub fits : sizeAt (drop at s) ≤ length (drop at s)
   pub more : 36 < sizeAt (drop at s)
   pub within : at + sizeAt (drop at s) ≤ total
   pub next : (y : List ℕ) → y ≡ set (set (drop at s) 3 0) (35 + nameAt (drop at s)) 0
-      → Left total target (take at s ++ y) (at + sizeAt (drop at s))
+      → ToNormalize total target (take at s ++ y) (at + sizeAt (drop at s))
 
 module _ (total at : ℕ) (target s front rest : List ℕ) (begins : length front ≡ at) where
   turn-of : {bytes : List ℕ} {records : List Record} → Raw bytes records → s ≡ front ++ (bytes ++ rest) → at + length bytes ≡ total
       → front ++ (recordsBytes records ++ rest) ≡ target
       → at < total
-      → Turn total target s at
+      → NormalizeTurn total target s at
   unfolding recordsBytes
   turn-of none is ends goal h = absurd (omega arith)
   turn-of (one {x} {rest = more} {rs} w raw) is ends goal h =
@@ -104,11 +105,11 @@ module _ (total at : ℕ) (target s front rest : List ℕ) (begins : length fron
             };
       }
 
-pub turn : (total : ℕ) (target s : List ℕ) (at : ℕ) → Left total target s at → at < total → Turn total target s at
+pub turn : (total : ℕ) (target s : List ℕ) (at : ℕ) → ToNormalize total target s at → at < total → NormalizeTurn total target s at
 turn total target s at k h = turn-of total at target s (k .front) (k .rest) (k .begins) (k .raw) (k .is) (k .ends) (k .goal) h
 
 -- nothing is left at the end
-pub done : (total : ℕ) (target s : List ℕ) → Left total target s total → s ≡ target
+pub done : (total : ℕ) (target s : List ℕ) → ToNormalize total target s total → s ≡ target
 unfolding recordsBytes
 done total target s k = go (k .raw) (k .is) (k .ends) (k .goal)
   where
@@ -128,7 +129,7 @@ raw-length (one {x} {rest = more} {rs} w raw) =
 
 -- where the loop begins
 pub begin : (total : ℕ) (s : List ℕ) (rs : List Record) → 24 ≤ total → total ≤ length s → Raw (take (total - 24) (drop 24 s)) rs
-    → Left total (over 24 (recordsBytes rs) s) s 24
+    → ToNormalize total (over 24 (recordsBytes rs) s) s 24
 unfolding over
 begin total s rs l h raw =
     let x = take (total - 24) (drop 24 s) in
@@ -149,7 +150,7 @@ begin total s rs l h raw =
     }
 
 -- the same in the code's terms: the part from the offset is lent, and comes back as y
-module _ (total : ℕ) (target s : List ℕ) (at : ℕ) (k : Left total target s at) (h : at < total) where
+module _ (total : ℕ) (target s : List ℕ) (at : ℕ) (k : ToNormalize total target s at) (h : at < total) where
   abbrev part : List ℕ
   part = take (length s - at) (drop at s)
 
@@ -173,8 +174,8 @@ module _ (total : ℕ) (target s : List ℕ) (at : ℕ) (k : Left total target s
         let l : length (drop at s) ≤ length s - at = omega (arith, length-drop at s) in
         ap (λ (z : List ℕ). take at s ++ (y ++ z)) (drop-of-length-le (drop at s) l) ∙ ap (λ (z : List ℕ). take at s ++ z) (append-nil y)
 
-    pub step-next : Left total target (take at s ++ (y ++ drop (length s - at) (drop at s))) (at + n)
+    pub step-next : ToNormalize total target (take at s ++ (y ++ drop (length s - at) (drop at s))) (at + n)
     step-next =
         let here = p ∙ ap (λ (l : List ℕ). set (set l 3 0) (35 + nameAt l) 0) (tail s at) in
-        subst (λ (z : List ℕ). Left total target z (at + n)) (sym back)
-        (subst (λ (i : ℕ). Left total target (take at s ++ y) (at + i)) (sym size-here) (turn total target s at k h .next y here))
+        subst (λ (z : List ℕ). ToNormalize total target z (at + n)) (sym back)
+        (subst (λ (i : ℕ). ToNormalize total target (take at s ++ y) (at + i)) (sym size-here) (turn total target s at k h .next y here))

@@ -4,8 +4,8 @@ use mathlib.Core.Path.{_≡_, refl}
 use mathlib.Core.List.{List, _++_}
 use native.Mathlib.Nat.{add-assoc}
 use native.Mathlib.Omega.{arith}
-use lib.ListN.{length, getD, drop}
-use lib.Seq.{getD-append-add, drop-append-add}
+use lib.ListN.{length, getD}
+use lib.Seq.{getD-append-add}
 use Rattle.crc32.specs.Crc32.{Bytes}
 use Rattle.bank.specs.Number.{u32At, le32}
 
@@ -21,9 +21,6 @@ u32-sum n h = omega arith
 pub u32-back : (n : ℕ) (q : List ℕ) → n < 4294967296 → u32At (le32 n ++ q) 0 ≡ n
 unfolding u32At le32
 u32-back n q h = u32-sum n h
-
-pub past-drop : (p q : List ℕ) (n k : ℕ) → length p ≡ n → drop (n + k) (p ++ q) ≡ drop k q
-past-drop p q n k e = rw e at (drop-append-add p q k)
 
 past-get : (p q : List ℕ) (n k : ℕ) → length p ≡ n → getD (p ++ q) (n + k) 0 ≡ getD q k 0
 past-get p q n k e = rw e at (getD-append-add p q k 0)

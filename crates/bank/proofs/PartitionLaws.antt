@@ -7,7 +7,7 @@ use native.Mathlib.Omega.{arith}
 use borrow.Author.Tests.{lt-leb, le-leb}
 use lib.ListN.{length, take, drop, length-drop}
 use Rattle.crc32.specs.Crc32.{Bytes}
-use Rattle.buffers.proofs.Walk.{tail}
+use Rattle.buffers.proofs.LoopSteps.{tail}
 use Rattle.bank.specs.declared.header.StoreHeader.{StoreHeader}
 use Rattle.bank.specs.declared.header.Head.{Head}
 use Rattle.bank.specs.declared.header.Head.the-variants.{Signature, Version, Size, Good}
@@ -19,19 +19,19 @@ use Rattle.bank.specs.declared.variable.Step.{Step}
 use Rattle.bank.specs.declared.variable.Step.the-variants.{Next, Halt}
 use Rattle.bank.specs.Record.{Record, sizeOf}
 use Rattle.bank.specs.Header.{readHeader}
-use Rattle.bank.specs.Read.{Found, got, halt, found, walkFrom, usableAt, spoils, slotOf, erasedSlot, afterHead, readBank}
+use Rattle.bank.specs.Read.{Item, got, halt, found, walkFrom, usableAt, spoils, slotOf, erasedSlot, afterHead, readBank}
 use Rattle.bank.specs.Bank.{bankSize}
-use Rattle.bank.specs.Figures.{total}
+use Rattle.bank.specs.Totals.{total}
 use Rattle.bank.specs.Answer.{stepOf, walked, partitionOf, answer, parsed}
 use Rattle.bank.proofs.WalkLaws.{stands, stands-size, walk-at, walk-end, walk-got, walk-halt}
 use Rattle.bank.proofs.ReadFine.{FineWalk, walk-fine}
 
-step-next : (o : Found) (n : ℕ) → Next n ≡ stepOf o → (r : Record) × (o ≡ got r) × (sizeOf r ≡ n)
+step-next : (o : Item) (n : ℕ) → Next n ≡ stepOf o → (r : Record) × (o ≡ got r) × (sizeOf r ≡ n)
 unfolding stepOf
 step-next (got r) n e = (r, refl, cc)
 step-next (halt c) n e = let z : _≡_ {A = ℕ} 0 1 = cc in absurd (omega arith)
 
-step-halt : (o : Found) (c : Stop) → Halt c ≡ stepOf o → o ≡ halt c
+step-halt : (o : Item) (c : Stop) → Halt c ≡ stepOf o → o ≡ halt c
 unfolding stepOf
 step-halt (got r) c e = cc
 step-halt (halt d) c e = cc

@@ -18,10 +18,10 @@ use Rattle.bank.specs.declared.partition.Stop.the-variants.{Blank, Start
 use Rattle.bank.specs.Number.{u32At}
 use Rattle.bank.specs.Header.{headerOf, signed, readHeader}
 use Rattle.bank.specs.Record.{Record, sizes}
-use Rattle.bank.specs.Bank.{Bank, empty, invalid, valid}
-use Rattle.bank.specs.Read.{walkFrom, usableAt, bankOf, spoils, slotOf, erasedSlot, afterHead, readBank}
+use Rattle.bank.specs.Bank.{Bank, empty, invalid, valid, bankOf}
+use Rattle.bank.specs.Read.{walkFrom, usableAt, spoils, slotOf, erasedSlot, afterHead, readBank}
 use Rattle.bank.specs.WellFormed.{FineHeader, FineRecords, FineBank}
-use Rattle.bank.specs.Figures.{total}
+use Rattle.bank.specs.Totals.{total}
 use Rattle.bank.proofs.NumberLaws.{u32-lt}
 use Rattle.bank.proofs.WalkLaws.{walk-at}
 use Rattle.bank.proofs.ReadFine.{walk-fine}

@@ -7,13 +7,13 @@ use native.Mathlib.Omega.{arith}
 use lib.ListN.{length, getD, take, drop, length-drop}
 use lib.Seq.{length-take-le, take-nil, take-take, drop-drop, getD-take}
 use Rattle.crc32.specs.Crc32.{crc32Of, Bytes}
-use Rattle.crc32.proofs.ByTable.{bytes-take, bytes-drop}
+use Rattle.crc32.proofs.ByteLaws.{bytes-take, bytes-drop}
 use Rattle.bank.specs.declared.partition.Stop.{Stop}
 use Rattle.bank.specs.declared.partition.Stop.the-variants.{End}
 use Rattle.bank.specs.Number.{u16At, u32At}
 use Rattle.bank.specs.Record.{Record, recordOf, sizeOf, nameAt, valueAt, sizeAt}
-use Rattle.bank.specs.Read.{Walk, halted, prepend, walkFrom}
-use Rattle.bank.specs.Write.{Whole, Raw, none, one}
+use Rattle.bank.specs.Read.{Walk, halted, withFirst, walkFrom}
+use Rattle.bank.specs.Raw.{Whole, Raw, none, one}
 use Rattle.bank.specs.WellFormed.{FineRecord, FineRecords}
 use Rattle.bank.proofs.NumberLaws.{u32-lt}
 use Rattle.bank.proofs.WalkLaws.{Stands, stands-size, walk-ind}
@@ -128,7 +128,7 @@ walk-fine s size k =
     more : (at : ℕ) (r : Record) → at + 36 < size → Stands (drop at s) r
         → (at + sizeOf r ≤ length s → FineWalk s size (at + sizeOf r) (walkFrom s size (at + sizeOf r)))
         → at ≤ length s
-        → FineWalk s size at (prepend r (walkFrom s size (at + sizeOf r)))
+        → FineWalk s size at (withFirst r (walkFrom s size (at + sizeOf r)))
     more at r l st ih h =
         let n = sizeOf r in
         let x = drop at s in

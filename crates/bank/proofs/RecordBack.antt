@@ -9,11 +9,12 @@ use lib.Seq.{take-at, drop-drop}
 use Rattle.crc32.specs.Crc32.{crc32Of}
 use Rattle.crc32.proofs.Linear.{crc-lt}
 use Rattle.buffers.specs.Bytes.{allBlank}
+use Rattle.buffers.proofs.Laws.{past-drop}
 use Rattle.bank.specs.Number.{u16At, u32At, le32}
 use Rattle.bank.specs.Record.{Record, recordOf, sizeOf, nameAt, valueAt, sizeAt, varHeaderBytes, recordBytes}
 use Rattle.bank.specs.Read.{got, found}
 use Rattle.bank.specs.WellFormed.{FineRecord}
-use Rattle.bank.proofs.NumberLaws.{length-le32, u32-sum, u32-back, past-drop, past-u32}
+use Rattle.bank.proofs.NumberLaws.{length-le32, u32-sum, u32-back, past-u32}
 use Rattle.bank.proofs.WalkLaws.{found-got}
 
 module _ (r : Record) (rest : List ℕ) (f : FineRecord r) where

@@ -13,7 +13,7 @@ use Rattle.bank.specs.declared.partition.Slot.the-variants.{Short, Empty
 use Rattle.bank.specs.Bank as bank
 use Rattle.bank.specs.Bank.{Bank, bankSize, partOf}
 use Rattle.bank.specs.Read.{readBank}
-use Rattle.bank.specs.Figures.{total}
+use Rattle.bank.specs.Totals.{total}
 use Rattle.bank.specs.Answer.{partitionOf, answer, parsed, serializedSlot, serializedPart}
 use Rattle.bank.proofs.WalkLaws.{by-test}
 use Rattle.bank.proofs.PartitionLaws.{bank-size}

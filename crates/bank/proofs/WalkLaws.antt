@@ -14,7 +14,7 @@ use Rattle.bank.specs.declared.partition.Stop.{Stop}
 use Rattle.bank.specs.declared.partition.Stop.the-variants.{Blank, Start, Length, End, Name, Crc}
 use Rattle.bank.specs.Number.{u16At, u32At}
 use Rattle.bank.specs.Record.{Record, recordOf, sizeOf, sizes, nameAt, valueAt, sizeAt}
-use Rattle.bank.specs.Read.{Found, got, halt, found, Walk, halted, prepend, after, turn, walk, walkFrom}
+use Rattle.bank.specs.Read.{Item, got, halt, found, Walk, halted, withFirst, after, turn, walk, walkFrom}
 
 -- what holds in both cases of a test
 pub by-test : {A : Type 0} (P : A → Type 0) (t : Bool) (x y : A) → (t ≡ true → P x) → (t ≡ false → P y) → P (cond t x y)
@@ -66,38 +66,38 @@ pub record Stands (s : List ℕ) (r : Record) : Type 0 where
   pub named : nameAt s ≡ 0 → ⊥
   pub summed : Summed s
 
-abbrev Sound : List ℕ → Found → Type 0
-Sound s (got r) = Stands s r
-Sound s (halt c) = Unit {0}
+abbrev ItemStands : List ℕ → Item → Type 0
+ItemStands s (got r) = Stands s r
+ItemStands s (halt c) = Unit {0}
 
-found-sound : (s : List ℕ) → Sound s (found s)
+found-sound : (s : List ℕ) → ItemStands s (found s)
 unfolding found
 found-sound s =
-    by-test (Sound s) (allBlank (take 36 s)) _ _ (λ _. tt)
-    (λ a. by-test (Sound s) (eqb (u16At s 0) 0x55AA) _ _
-    (λ b. by-test (Sound s) (leb (sizeAt s) (length s)) _ _
-    (λ d. by-test (Sound s) (eqb (nameAt s) 0) _ _ (λ _. tt)
-    (λ e. by-test (Sound s) (eqb (u32At s 32) (crc32Of (take (valueAt s) (drop (36 + nameAt s) s)))) _ _
+    by-test (ItemStands s) (allBlank (take 36 s)) _ _ (λ _. tt)
+    (λ a. by-test (ItemStands s) (eqb (u16At s 0) 0x55AA) _ _
+    (λ b. by-test (ItemStands s) (leb (sizeAt s) (length s)) _ _
+    (λ d. by-test (ItemStands s) (eqb (nameAt s) 0) _ _ (λ _. tt)
+    (λ e. by-test (ItemStands s) (eqb (u32At s 32) (crc32Of (take (valueAt s) (drop (36 + nameAt s) s)))) _ _
     (λ f. record { is = refl; starts = eqb-true _ _ b; ends = leb-true _ _ d; named = eqb-false _ _ e; summed = eqb-true _ _ f })
     (λ _. tt)))
     (λ _. tt))
     (λ _. tt))
 
 pub stands : (s : List ℕ) (r : Record) → found s ≡ got r → Stands s r
-stands s r e = subst (Sound s) e (found-sound s)
+stands s r e = subst (ItemStands s) e (found-sound s)
 
 pub stands-size : (s : List ℕ) (r : Record) → Stands s r → sizeOf r ≡ sizeAt s
 stands-size s r k = ap sizeOf (k .is) ∙ size-of s (k .ends) (k .named)
 
-size-pos : (r : Record) → 36 < sizeOf r
+pub size-pos : (r : Record) → 36 < sizeOf r
 unfolding sizeOf
 size-pos r = omega arith
 
 -- the reading loop
 
-after-same : (o : Found) (at : ℕ) (f g : ℕ → Walk) → ((n : ℕ) → at < n → f n ≡ g n) → after o at f ≡ after o at g
+after-same : (o : Item) (at : ℕ) (f g : ℕ → Walk) → ((n : ℕ) → at < n → f n ≡ g n) → after o at f ≡ after o at g
 unfolding after
-after-same (got r) at f g h = ap (prepend r) (h (at + sizeOf r) (omega (arith, size-pos r)))
+after-same (got r) at f g h = ap (withFirst r) (h (at + sizeOf r) (omega (arith, size-pos r)))
 after-same (halt c) at f g h = refl
 
 -- once the turns suffice, their number does not matter
@@ -129,23 +129,23 @@ unfolding turn
 walk-next s size at h = rw (walk-turn s size at (omega arith)) (simp (lt-ltb (at + 36) size h))
 
 pub walk-got : (s : List ℕ) (size at : ℕ) (r : Record) → at + 36 < size → found (drop at s) ≡ got r
-    → walkFrom s size at ≡ prepend r (walkFrom s size (at + sizeOf r))
+    → walkFrom s size at ≡ withFirst r (walkFrom s size (at + sizeOf r))
 unfolding after
-walk-got s size at r h e = walk-next s size at h ∙ ap (λ (o : Found). after o at (walkFrom s size)) e
+walk-got s size at r h e = walk-next s size at h ∙ ap (λ (o : Item). after o at (walkFrom s size)) e
 
 pub walk-halt : (s : List ℕ) (size at : ℕ) (c : Stop) → at + 36 < size → found (drop at s) ≡ halt c → walkFrom s size at ≡ halted c at
 unfolding after
-walk-halt s size at c h e = walk-next s size at h ∙ ap (λ (o : Found). after o at (walkFrom s size)) e
+walk-halt s size at c h e = walk-next s size at h ∙ ap (λ (o : Item). after o at (walkFrom s size)) e
 
 -- a walk, taken apart: P holds of each end, and of a record with the walk behind it
 pub walk-ind : (s : List ℕ) (size : ℕ) (P : ℕ → Walk → Type 0) → ((at : ℕ) → size ≤ at + 36 → P at (halted End at))
     → ((at : ℕ) (c : Stop) → at + 36 < size → found (drop at s) ≡ halt c → P at (halted c at))
     → ((at : ℕ) (r : Record) → at + 36 < size → Stands (drop at s) r → P (at + sizeOf r) (walkFrom s size (at + sizeOf r))
-    → P at (prepend r (walkFrom s size (at + sizeOf r))))
+    → P at (withFirst r (walkFrom s size (at + sizeOf r))))
     → (at : ℕ) → P at (walkFrom s size at)
 walk-ind s size P over stop more at = go size at (omega arith)
   where
-    there : (n at : ℕ) → size ≤ at + suc n → ((m : ℕ) → size ≤ m + n → P m (walkFrom s size m)) → at + 36 < size → (o : Found)
+    there : (n at : ℕ) → size ≤ at + suc n → ((m : ℕ) → size ≤ m + n → P m (walkFrom s size m)) → at + 36 < size → (o : Item)
         → found (drop at s) ≡ o
         → P at (walkFrom s size at)
     there n at h ih l (halt c) e = rw (walk-halt s size at c l e) (stop at c l e)

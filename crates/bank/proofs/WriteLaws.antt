@@ -9,8 +9,8 @@ use lib.ListN.{length, getD, set, take, drop, replicate, drop-of-length-le, leng
 use lib.Seq.{take-at, drop-at, set-append-left, take-set-lt, length-take-le}
 use borrow.Author.Tests.{leb-true, eqb-true}
 use Rattle.crc32.specs.Crc32.{Bytes}
-use Rattle.buffers.specs.Bytes.{onto, eqBytes}
-use Rattle.buffers.proofs.Laws.{eq-bytes, onto-fits, length-onto}
+use Rattle.buffers.specs.Bytes.{onto, eqBytes, over}
+use Rattle.buffers.proofs.Laws.{eq-bytes, onto-fits, length-onto, past-drop}
 use Rattle.bank.specs.declared.header.StoreHeader.{StoreHeader}
 use Rattle.bank.specs.declared.header.Head.the-variants.{Good, Size, Version, Signature}
 use Rattle.bank.specs.Number.{u32At, le32}
@@ -18,9 +18,8 @@ use Rattle.bank.specs.Header.{signature, signed, headerBytes, headerOf, 
 use Rattle.bank.specs.Record.{Record, recordsBytes}
 use Rattle.bank.specs.Bank.{Bank, valid, padded, bankBytes, partOf}
 use Rattle.bank.specs.Read.{walkFrom, readBank}
-use Rattle.bank.specs.Write.{over, Raw}
-use Rattle.bank.specs.Figures.{total}
-use Rattle.bank.proofs.NumberLaws.{past-drop}
+use Rattle.bank.specs.Raw.{Raw}
+use Rattle.bank.specs.Totals.{total}
 use Rattle.bank.proofs.Normal.{one-more, u32-split}
 use Rattle.bank.proofs.NormalizeLaws.{raw-length}
 use Rattle.bank.proofs.LengthLaws.{length-header}

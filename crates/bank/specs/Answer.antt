@@ -4,12 +4,6 @@ use mathlib.Core.List.{List}
 use mathlib.Core.Bool.{_&&_, cond}
 use lib.ListN.{length, getD, take, drop, replicate}
 use lib.Dec.{leb}
-use Rattle.bank.specs.Bank as bank
-use Rattle.bank.specs.Bank.{Bank, bankSize, partOf}
-use Rattle.bank.specs.Number.{u32At}
-use Rattle.bank.specs.Record.{sizeOf, guidOf, nameAt, valueAt}
-use Rattle.bank.specs.Read.{Found, got, halt, Walk, readBank}
-use Rattle.bank.specs.Figures.{total}
 use Rattle.bank.specs.declared.partition.Slot.{Slot}
 use Rattle.bank.specs.declared.partition.Slot.the-variants.{Short, Empty, Invalid, Valid}
 use Rattle.bank.specs.declared.partition.Partition.{Partition}
@@ -18,6 +12,12 @@ use Rattle.bank.specs.declared.variable.Step.{Step}
 use Rattle.bank.specs.declared.variable.Step.the-variants.{Next, Halt}
 use Rattle.bank.specs.declared.variable.VarType.{VarType}
 use Rattle.bank.specs.declared.variable.VarHeader.{VarHeader}
+use Rattle.bank.specs.Bank as bank
+use Rattle.bank.specs.Bank.{Bank, bankSize, partOf}
+use Rattle.bank.specs.Number.{u32At}
+use Rattle.bank.specs.Record.{sizeOf, guidOf, nameAt, valueAt}
+use Rattle.bank.specs.Read.{Item, got, halt, Walk, readBank}
+use Rattle.bank.specs.Totals.{total}
 
 unfoldable pub partitionOf : Bank → Partition
 partitionOf b = record { header = b .header; «total_used» = total b; «usable_size» = b .usable }
@@ -32,7 +32,7 @@ unfoldable pub parsed : List ℕ → Slot
 parsed s = cond (leb bankSize (length s)) (answer (readBank (take bankSize s))) Short
 
 -- of what stands at an offset: the record's size, or why reading stops there
-unfoldable pub stepOf : Found → Step
+unfoldable pub stepOf : Item → Step
 stepOf (got r) = Next (sizeOf r)
 stepOf (halt c) = Halt c
 

@@ -11,6 +11,9 @@ pub record Bank : Type 0 where
   pub records : List Record
   pub usable : ℕ
 
+abbrev pub bankOf : StoreHeader → List Record → ℕ → Bank
+bankOf h rs u = record { header = h; records = rs; usable = u }
+
 -- 01, 'Opening': a slot is Valid, Empty (not a header, all bytes 0xFF) or Invalid
 pub data Slot : Type 0 where
   empty : Slot
@@ -34,3 +37,7 @@ unfoldable pub partOf : ℕ → Slot → List ℕ
 partOf n empty = replicate n 255
 partOf n invalid = replicate n 255
 partOf n (valid b) = padded n (bankBytes b)
+
+-- header, all records, and 0xFF up to the header's size
+unfoldable pub output : Bank → List ℕ
+output k = padded (k .header .size) (bankBytes k)

@@ -6,10 +6,10 @@ use mathlib.Core.Bool.{Bool, _&&_, cond}
 use lib.ListN.{length, getD, take}
 use lib.Dec.{leb, eqb}
 use Rattle.buffers.specs.Bytes.{eqBytes}
-use Rattle.bank.specs.Number.{u32At, le32}
 use Rattle.bank.specs.declared.header.StoreHeader.{StoreHeader}
 use Rattle.bank.specs.declared.header.Head.{Head}
 use Rattle.bank.specs.declared.header.Head.the-variants.{Good, Signature, Version, Size}
+use Rattle.bank.specs.Number.{u32At, le32}
 
 abbrev pub signature : List ℕ
 signature = 0x33 ∷ 0x56 ∷ 0x56 ∷ 0x4E ∷ []

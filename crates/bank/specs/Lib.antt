@@ -3,7 +3,7 @@ pub mod Header
 pub mod Record
 pub mod Bank
 pub mod Read
-pub mod Write
-pub mod Figures
+pub mod Raw
+pub mod Totals
 pub mod WellFormed
 pub mod Answer

@@ -14,15 +14,15 @@ use Rattle.bank.specs.declared.partition.Stop.the-variants.{Blank, Start
 use Rattle.bank.specs.Number.{u16At, u32At}
 use Rattle.bank.specs.Header.{readHeader}
 use Rattle.bank.specs.Record.{Record, recordOf, sizeOf, nameAt, valueAt, sizeAt}
-use Rattle.bank.specs.Bank.{Bank, Slot, empty, invalid, valid}
+use Rattle.bank.specs.Bank.{Slot, empty, invalid, valid, bankOf}
 
 -- what stands at an offset
-pub data Found : Type 0 where
-  got : Record → Found
-  halt : Stop → Found
+pub data Item : Type 0 where
+  got : Record → Item
+  halt : Stop → Item
 
 -- s is what remains of the 65,536 bytes
-unfoldable pub found : List ℕ → Found
+unfoldable pub found : List ℕ → Item
 found s =
     cond (allBlank (take 36 s)) (halt Blank)
     (cond (eqb (u16At s 0) 0x55AA)
@@ -41,11 +41,11 @@ pub record Walk : Type 0 where
 abbrev pub halted : Stop → ℕ → Walk
 halted c at = record { records = []; stop = c; at = at }
 
-abbrev pub prepend : Record → Walk → Walk
-prepend r w = record { records = r ∷ w .records; stop = w .stop; at = w .at }
+abbrev pub withFirst : Record → Walk → Walk
+withFirst r w = record { records = r ∷ w .records; stop = w .stop; at = w .at }
 
-unfoldable pub after : Found → ℕ → (ℕ → Walk) → Walk
-after (got r) at go = prepend r (go (at + sizeOf r))
+unfoldable pub after : Item → ℕ → (ℕ → Walk) → Walk
+after (got r) at go = withFirst r (go (at + sizeOf r))
 after (halt c) at go = halted c at
 
 -- one turn of the loop `while offset + 36 < size`
@@ -69,9 +69,6 @@ usableAt Length s size at = at
 usableAt End s size at = size
 usableAt Name s size at = size
 usableAt Crc s size at = size
-
-abbrev pub bankOf : StoreHeader → List Record → ℕ → Bank
-bankOf h rs u = record { header = h; records = rs; usable = u }
 
 -- name length 0 and an unequal CRC make the bank Invalid
 abbrev pub spoils : Stop → Bool

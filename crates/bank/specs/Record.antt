@@ -8,9 +8,9 @@ use lib.ListN.{length, getD, take, drop}
 use lib.Dec.{eqb}
 use Rattle.crc32.specs.Crc32.{crc32Of}
 use Rattle.buffers.specs.Bytes.{eqBytes}
-use Rattle.bank.specs.Number.{u32At, le32}
 use Rattle.bank.specs.declared.variable.VarType.{VarType}
 use Rattle.bank.specs.declared.variable.VarType.the-variants.{Common, System}
+use Rattle.bank.specs.Number.{u32At, le32}
 
 pub record Record : Type 0 where
   pub state : ℕ

@@ -9,12 +9,13 @@ ghost use Prim.Native.Nat.{_+_, _-_, _≤_, _<_};
 ghost use mathlib.Core.List.{List};
 ghost use lib.ListN.{length, take, drop, set};
 ghost use Rattle.crc32.specs.Table.{IsTables};
+ghost use Rattle.buffers.specs.Bytes.{over};
 ghost use Rattle.bank.specs.Header.{readHeader};
 ghost use Rattle.bank.specs.Record.{Record, nameAt, sizeAt, recordsBytes};
 ghost use Rattle.bank.specs.Bank.{Bank, valid, partOf};
 ghost use Rattle.bank.specs.Read.{readBank, walkFrom, usableAt, spoils, erasedSlot};
-ghost use Rattle.bank.specs.Figures.{total as totalOf};
-ghost use Rattle.bank.specs.Write.{over, Raw};
+ghost use Rattle.bank.specs.Totals.{total as totalOf};
+ghost use Rattle.bank.specs.Raw.{Raw};
 ghost use Rattle.bank.specs.Answer.{parsed, answer, walked, serializedSlot, serializedPart};
 
 // Why reading a bank's records stopped: a blank, a wrong start number, a record over what remains, the end of size; or a name length of 0

@@ -4,11 +4,11 @@ use mathlib.Core.Path.{_≡_, ap}
 use mathlib.Core.List.{List, _++_}
 use Rattle.bank.specs.declared.partition.Partition.{Partition}
 use Rattle.bank.specs.Bank.{Bank}
-use Rattle.bank.specs.Figures.{total}
+use Rattle.bank.specs.Totals.{total}
 use Rattle.bank.specs.Answer.{partitionOf}
-use Rattle.banklist.specs.Put.{Room, Put}
+use Rattle.text.specs.Put.{Room, Put}
+use Rattle.text.proofs.PutLaws.{join, front, back}
 use Rattle.banklist.specs.Listing.{bankLine, recordLines, usedLine, bankLines}
-use Rattle.banklist.proofs.PutLaws.{join, front, back}
 
 module _ (b : Bank) {p : Partition} {w : List ℕ} (e : p ≡ partitionOf b) (r : Room 0 (bankLines b) w) where
   abbrev rest : List ℕ

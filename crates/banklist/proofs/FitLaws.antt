@@ -9,20 +9,20 @@ use lib.ListN.{length, take, length-append}
 use lib.Seq.{length-take-le}
 use borrow.Author.Tests.{lt-ltb, leb-true}
 use Rattle.crc32.specs.Crc32.{Bytes}
-use Rattle.crc32.proofs.ByTable.{bytes-take}
+use Rattle.crc32.proofs.ByteLaws.{bytes-take}
 use Rattle.bank.specs.declared.header.StoreHeader.{StoreHeader}
 use Rattle.bank.specs.declared.variable.VarType.{VarType}
 use Rattle.bank.specs.declared.variable.VarType.the-variants.{Common, System}
 use Rattle.bank.specs.Record.{Record, typeOf, sizeOf, sizes}
 use Rattle.bank.specs.Bank.{Bank, Slot, empty, invalid, valid, bankSize}
 use Rattle.bank.specs.Read.{readBank}
-use Rattle.bank.specs.Figures.{total}
+use Rattle.bank.specs.Totals.{total}
 use Rattle.bank.specs.WellFormed.{FineHeader, FineBank}
 use Rattle.bank.proofs.WalkLaws.{by-test}
 use Rattle.bank.proofs.ReadBank.{read-fine}
-use Rattle.banklist.specs.Text.{digit, hex, be32, decimalBy, decimal, field, line}
+use Rattle.text.specs.Text.{digit, hex, be32, decimalBy, decimal, field, line}
+use Rattle.text.proofs.TextLaws.{length-hex}
 use Rattle.banklist.specs.Listing.{shortWord, emptyWord, invalidWord, typeWord, keyWord, bankLine, fieldsLine, recordLine, recordLines, usedLine, bankLines, slotLines, listing, outSize}
-use Rattle.banklist.proofs.TextLaws.{length-hex}
 
 digits-short : (k most n : ℕ) → n < 10 ^ suc k → length (decimalBy most n) ≤ suc k
 unfolding decimalBy

@@ -1,6 +1,5 @@
-pub mod PutLaws
-pub mod TextLaws
+pub mod KeyLaws
 pub mod RowLaws
 pub mod BankLaws
 pub mod FitLaws
-pub mod SlotLaws
+pub mod ListingLaws

@@ -5,20 +5,20 @@ use mathlib.Core.List.{List, [], _∷_, _++_, append-assoc, append-nil}
 use native.Mathlib.Omega.{arith}
 use lib.ListN.{length, getD, take, drop, length-drop}
 use lib.Seq.{drop-drop, length-take-le}
-use Rattle.buffers.proofs.Walk.{tail}
+use Rattle.buffers.proofs.LoopSteps.{tail}
 use Rattle.bank.specs.declared.variable.VarHeader.{VarHeader}
 use Rattle.bank.specs.Number.{u32At}
 use Rattle.bank.specs.Record.{Record, recordOf, sizeOf, nameAt, valueAt, sizeAt}
 use Rattle.bank.specs.Bank.{Bank, valid}
 use Rattle.bank.specs.Read.{walkFrom, readBank}
-use Rattle.bank.specs.Figures.{total}
+use Rattle.bank.specs.Totals.{total}
 use Rattle.bank.specs.Answer.{varHeader, parsedHeader}
 use Rattle.bank.proofs.WalkLaws.{Stands, stands-size, walk-ind}
-use Rattle.bank.proofs.LeafLaws.{header-long}
+use Rattle.bank.proofs.FieldLaws.{header-long}
 use Rattle.bank.proofs.ReadBank.{came, came-total}
-use Rattle.banklist.specs.Put.{Room, Put}
+use Rattle.text.specs.Put.{Room, Put}
+use Rattle.text.proofs.PutLaws.{put-none, join, front, back}
 use Rattle.banklist.specs.Listing.{fieldsLine, recordLine, recordLines}
-use Rattle.banklist.proofs.PutLaws.{put-none, join, front, back}
 
 -- the records rs stand in s from one offset up to another
 abbrev pub Rows : List ℕ → ℕ → ℕ → List Record → Type 0
@@ -60,7 +60,7 @@ rows-next s (r ∷ rs) at end k h =
     }
 
 -- what the code knows of the record at an offset by its header
-pub record Sized (s : List ℕ) (at : ℕ) (h : VarHeader) : Type 0 where
+pub record HeaderAt (s : List ℕ) (at : ℕ) (h : VarHeader) : Type 0 where
   pub name : h .«name_size» ≡ nameAt (drop at s)
   pub value : h .«data_size» ≡ valueAt (drop at s)
   pub named : 0 < nameAt (drop at s)
@@ -78,7 +78,7 @@ module _ (s : List ℕ) (at : ℕ) (k : Stands (drop at s) (recordOf (drop at s)
   header-here : h ≡ varHeader (getD here 2 0) (u32At here 4) (nameAt here) (valueAt here) (take 16 (drop 16 here)) (u32At here 32)
   header-here = e ∙ ap parsedHeader (tail s at) ∙ header-long here (omega (arith, k .ends))
 
-  sized : Sized s at h
+  sized : HeaderAt s at h
   sized =
       record {
         name = ap (λ (x : VarHeader). x .«name_size») header-here;
@@ -99,7 +99,7 @@ module _ (s : List ℕ) (at : ℕ) (k : Stands (drop at s) (recordOf (drop at s)
       f ∙ cc (key, value, k .summed)
 
 -- the lines of the records before an offset are put, and those from it on are left
-pub record Left (s out₀ : List ℕ) (from end : ℕ) (out : List ℕ) (p at index : ℕ) : Type 0 where
+pub record ToList (s out₀ : List ℕ) (from end : ℕ) (out : List ℕ) (p at index : ℕ) : Type 0 where
   pub lines : List ℕ
   pub todo : List Record
   pub rows : Rows s at end todo
@@ -112,7 +112,7 @@ pub record Left (s out₀ : List ℕ) (from end : ℕ) (out : List ℕ) (p at in
 
 pub left-all : (s out : List ℕ) (from end : ℕ) (b : Bank) → 24 ≤ length s → readBank s ≡ valid b → end ≡ total b
     → Room from (recordLines 0 (b .records)) out
-    → Left s out from end out from 24 0
+    → ToList s out from end out from 24 0
 left-all s out from end b l e t r =
     let c = came s b e in
     let w = walkFrom s (b .header .size) 24 in
@@ -132,13 +132,13 @@ left-all s out from end b l e t r =
       high = rows-high s (b .records) 24 end l k;
     }
 
-module _ {s out₀ out : List ℕ} {from end p at index : ℕ} (l : Left s out₀ from end out p at index) where
+module _ {s out₀ out : List ℕ} {from end p at index : ℕ} (l : ToList s out₀ from end out p at index) where
   -- a turn, by what the code is told of the part from the offset on
   module _ (before : at < end) (h : VarHeader) (e : h ≡ parsedHeader (take (length s - at) (drop at s))) where
     next : Next s at end (l .todo)
     next = rows-next s (l .todo) at end (l .rows) before
 
-    pub left-sized : Sized s at h
+    pub left-sized : HeaderAt s at h
     left-sized = sized s at (next .stands) h e
 
     module _ (n : ℕ) (q : n ≡ 36 + h .«name_size» + 0) where
@@ -153,7 +153,7 @@ module _ {s out₀ out : List ℕ} {from end p at index : ℕ} (l : Left s out�
       left-room = front rest (rw split at (l .room))
 
       pub left-turn : {o : ℕ} {out₁ : List ℕ} (m : ℕ) → m ≡ 36 + h .«name_size» + h .«data_size» → Put p o (spelled s at index h n) out out₁
-          → Left s out₀ from end out₁ o (at + m) (index + 1)
+          → ToList s out₀ from end out₁ o (at + m) (index + 1)
       left-turn m g a =
           let z = left-sized in
           let i : at + sizeAt (drop at s) ≡ at + m = omega arith in

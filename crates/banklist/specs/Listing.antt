@@ -5,15 +5,15 @@ use mathlib.Core.Bool.{cond}
 use lib.ListN.{length, take}
 use lib.Dec.{leb}
 use Rattle.crc32.specs.Crc32.{crc32Of}
+use Rattle.buffers.specs.Bytes.{over}
 use Rattle.bank.specs.declared.header.StoreHeader.{StoreHeader}
 use Rattle.bank.specs.declared.variable.VarType.{VarType}
 use Rattle.bank.specs.declared.variable.VarType.the-variants.{Common, System}
 use Rattle.bank.specs.Record.{Record, typeOf}
 use Rattle.bank.specs.Bank.{Bank, Slot, empty, invalid, valid, bankSize}
 use Rattle.bank.specs.Read.{readBank}
-use Rattle.bank.specs.Figures.{total}
-use Rattle.bank.specs.Write.{over}
-use Rattle.banklist.specs.Text.{hex, be32, decimal, line}
+use Rattle.bank.specs.Totals.{total}
+use Rattle.text.specs.Text.{hex, be32, decimal, line}
 
 abbrev pub bankWord : List ℕ
 bankWord = 0x62 ∷ 0x61 ∷ 0x6E ∷ 0x6B ∷ []

@@ -1,16 +1,16 @@
 // The lines of a listing: 01, 'Bench cases'.
-use super::text::FEED;
-use super::text::SPACE;
-use super::text::be32;
-use super::text::put_all;
-use super::text::put_hex;
-use super::text::put_number;
 use bank::StoreHeader;
 use bank::VarHeader;
 use bank::VarType;
 use bank::Variable;
-ghost use Rattle.banklist.specs.Text.{field};
-ghost use Rattle.banklist.specs.Put.{Room, Put};
+use text::FEED;
+use text::SPACE;
+use text::be32;
+use text::put_all;
+use text::put_hex;
+use text::put_number;
+ghost use Rattle.text.specs.Text.{field};
+ghost use Rattle.text.specs.Put.{Room, Put};
 ghost use Rattle.banklist.specs.Listing.{typeWord, keyWord, bankLine, fieldsLine, usedLine};
 
 pub(crate) fn bank_line(out: &mut [u8], at: usize, h: StoreHeader) -> usize

@@ -2,20 +2,20 @@
 use super::lines::bank_line;
 use super::lines::record_line;
 use super::lines::used_line;
-use super::text::put_all;
 use bank::Partition;
 use bank::Slot;
 use bank::VarHeader;
 use bank::Variable;
+use text::put_all;
 ghost use mathlib.Core.Path.{_≡_};
 ghost use Rattle.io.specs.Counts.{Counts};
 ghost use Rattle.bank.specs.Bank.{Bank, valid, bankSize};
 ghost use Rattle.bank.specs.Read.{readBank};
-ghost use Rattle.bank.specs.Figures.{total as totalOf};
+ghost use Rattle.bank.specs.Totals.{total as totalOf};
 ghost use Rattle.bank.specs.Answer.{partitionOf};
-ghost use lib.ListN.{length};
-ghost use Rattle.banklist.specs.Put.{Room, Put};
+ghost use Rattle.text.specs.Put.{Room, Put};
 ghost use Rattle.banklist.specs.Listing.{recordLines, bankLines, listedLength, listedOut};
+ghost use lib.ListN.{length};
 
 // Bytes enough for any listing: a record of n bytes makes a line of at most 2 * n.
 pub(crate) const OUT: usize = 3 * 65536;

@@ -1,7 +1,6 @@
 // Lists the bank in the first 65,536 bytes of standard input: 01, 'Bench cases'. What is no listing goes to standard error.
 mod lines;
 mod listing;
-mod text;
 
 use libc::STDERR_FILENO;
 use libc::STDIN_FILENO;

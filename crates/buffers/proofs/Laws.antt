@@ -7,7 +7,7 @@ use native.Mathlib.Omega.{arith}
 use native.Mathlib.Nat.{min-eq-left, min-eq-right}
 use lib.Dec.{eqb, leb}
 use lib.ListN.{length, getD, take, drop, replicate, drop-of-length-le, length-drop, length-take, length-append, length-replicate, replicate-append-replicate}
-use lib.Seq.{take-all, take-at, drop-at, take-length, drop-length}
+use lib.Seq.{take-all, take-at, drop-at, take-length, drop-length, drop-append-add}
 use borrow.Author.Tests.{eq-eqb, ne-eqb, eqb-true, leb-true, leb-false}
 use Rattle.buffers.specs.Bytes.{allFF, allBlank, countFF, eqBytes, onto}
 
@@ -120,3 +120,10 @@ module _ (src dst : List ℕ) where
   pub onto-fits : length src ≤ length dst → onto src dst ≡ src ++ drop (length src) dst
   unfolding onto
   onto-fits h = rw (take-all (length dst) src h)
+
+pub past-drop : (p q : List ℕ) (n k : ℕ) → length p ≡ n → drop (n + k) (p ++ q) ≡ drop k q
+past-drop p q n k e = rw e at (drop-append-add p q k)
+
+pub and-both : (a b : Bool) → (a && b) ≡ true → (a ≡ true) × (b ≡ true)
+and-both true b e = (refl, e)
+and-both false b e = let z : _≡_ {A = ℕ} 0 1 = cc in absurd (omega arith)

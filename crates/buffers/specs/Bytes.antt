@@ -1,9 +1,13 @@
--- What the operations on byte slices compute, by recursion on the list.
-use Prim.Native.Nat.{ℕ, suc}
+-- Bytes put over others, and records as they stand before their reserved and closing bytes are zeroed.
+use Prim.Native.Nat.{ℕ, _+_, suc}
 use mathlib.Core.List.{List, [], _∷_, _++_}
+use lib.ListN.{length, take, drop}
 use mathlib.Core.Bool.{Bool, true, false, _&&_, _||_, cond}
 use lib.Dec.{eqb}
-use lib.ListN.{length, take, drop}
+
+-- w with the bytes x over it from a place on
+unfoldable pub over : ℕ → List ℕ → List ℕ → List ℕ
+over at x w = take at w ++ (x ++ drop (at + length x) w)
 
 -- each byte is 0xFF
 unfoldable pub allFF : List ℕ → Bool

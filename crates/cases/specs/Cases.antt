@@ -6,21 +6,20 @@ use lib.ListN.{length, replicate}
 use Rattle.crc32.specs.Crc32.{polyIf, bitStep, bitSteps, byteStep, byteSteps, crc32Of}
 use Rattle.buffers.specs.Bytes.{allFF, allBlank, countFF, eqBytes}
 use Rattle.bank.specs.declared.header.StoreHeader.{StoreHeader}
+use Rattle.bank.specs.declared.variable.VarType.the-variants.{Common}
 use Rattle.bank.specs.Number.{u16At, u32At, le32}
 use Rattle.bank.specs.Header.{headerBytes, headerOf, signed, readHeader}
 use Rattle.bank.specs.Record as record-specs
 use Rattle.bank.specs.Record.{Record, sizeOf, sizes, deletedState, varHeaderBytes, recordBytes, recordOf, commonGuid}
-use Rattle.bank.specs.Bank.{Slot, empty, invalid, valid, bankSize, padded}
-use Rattle.bank.specs.Read.{bankOf, found, after, turn, walk, walkFrom, usableAt, slotOf, erasedSlot, afterHead, readBank}
-use Rattle.bank.specs.Figures.{select, total, liveTotal, liveOf}
-use Rattle.bank.specs.declared.variable.VarType.the-variants.{Common}
-use Rattle.nvram.specs.Part.{partSize}
-use Rattle.nvram.specs.Book.{Book}
-use Rattle.nvram.specs.Opening.{readSlots, activeFrom, anyValid, Opened, opened, refused, opening}
-use Rattle.nvram.specs.Edit.{plain, insert, remove, editedBy, grows, refusedEdit}
-use Rattle.nvram.specs.Figures.{figuresBy, plus, figuresOf}
-use Rattle.nvram.specs.Commit.{judge, due, judgeBank, request}
-use Rattle.nvram.specs.Call.{edit, commit, Answer, edited, looked, handed, committed, joined, number, bySlot, editAs, editBank, moveIn, commitAs, commitBank, commitTo, step}
+use Rattle.bank.specs.Bank.{Slot, empty, invalid, valid, bankSize, padded, bankOf}
+use Rattle.bank.specs.Read.{found, after, turn, walk, walkFrom, usableAt, slotOf, erasedSlot, afterHead, readBank}
+use Rattle.bank.specs.Totals.{select, total, liveTotal, liveOf}
+use Rattle.records.specs.Figures.{figuresBy, plus, figuresOf}
+use Rattle.book.specs.Book.{partSize, Book}
+use Rattle.book.specs.Opening.{readSlots, activeFrom, anyValid, Opened, opened, refused, opening}
+use Rattle.book.specs.Edit.{plain, insert, remove, editedBy, grows, refusedEdit}
+use Rattle.book.specs.Commit.{judge, due, judgeBank, request}
+use Rattle.book.specs.Call.{edit, commit, Answer, edited, looked, handed, committed, joined, number, bySlot, editAs, editBank, moveIn, commitAs, commitBank, commitTo, step}
 
 pub record Row : Type 0 where
   pub got : List ℕ
@@ -113,10 +112,10 @@ table =
     ∷ (figures (readBank (bank 65536 (replicate 36 255 ++ (0 ∷ [])))) is 24 ∷ (24 + 36) ∷ 0 ∷ [])
     ∷ []
 
-abbrev pub Holds : List Row → Type 0
-Holds [] = Unit {0}
-Holds (r ∷ rs) = (r .got ≡ r .want) × Holds rs
+abbrev pub Computed : List Row → Type 0
+Computed [] = Unit {0}
+Computed (r ∷ rs) = (r .got ≡ r .want) × Computed rs
 
-pub cases : Holds table
+pub cases : Computed table
 unfolding table figures begins writes afterwards opening readSlots activeFrom anyValid bankSize partSize step bySlot editBank editAs refusedEdit editedBy grows moveIn commitAs commitBank commitTo judgeBank judge due request select liveTotal liveOf figuresOf figuresBy plus record-specs.live crc32Of byteSteps byteStep bitSteps bitStep polyIf allFF allBlank countFF eqBytes u16At u32At le32 headerBytes headerOf signed readHeader sizeOf sizes deletedState varHeaderBytes recordBytes recordOf padded found after turn walk walkFrom usableAt slotOf erasedSlot afterHead readBank total
 cases = (refl, (refl, (refl, (refl, (refl, (refl, (refl, (refl, (refl, (refl, (refl, (refl, (refl, (refl, (refl, (refl, tt))))))))))))))))

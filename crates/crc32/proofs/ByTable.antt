@@ -7,31 +7,23 @@ use native.Mathlib.Omega.{arith}
 use lib.Dec.{lit≤}
 use lib.Bits.{bitXor, bitAnd, mask-lt, xor-zero-r, xor-zero-l, xor-comm}
 use lib.ListN.{length, take, drop, take-append-drop, length-append, length-drop}
-use lib.Seq.{length-take-le, getD-drop}
+use lib.Seq.{length-take-le}
 use Rattle.crc32.specs.Crc32.{bitSteps, byteSteps, crc32Of, Bytes}
-use Rattle.crc32.specs.Table.{IsTables, entry, byBytes, shares, block, times, inRuns, byWords, byBlocks, crc32By}
+use Rattle.crc32.specs.Table.{IsTables, tableEntry, byBytes, shares, block, times, inRuns, byWords, byBlocks, crc32By}
+use Rattle.crc32.proofs.ByteLaws.{bytes-take, bytes-drop}
 use Rattle.crc32.proofs.Linear.{xor-assoc, byte-step, share, steps-append, byte-steps-lt}
 use Rattle.crc32.proofs.Shares.{share-nil, share-cons}
 
-pub bytes-take : (n : ℕ) (l : List ℕ) → Bytes l → Bytes (take n l)
-bytes-take zero l k i = omega arith
-bytes-take (suc n) [] k i = k i
-bytes-take (suc n) (x ∷ l) k zero = k 0
-bytes-take (suc n) (x ∷ l) k (suc i) = bytes-take n l (λ j. k (suc j)) i
-
-pub bytes-drop : (n : ℕ) (l : List ℕ) → Bytes l → Bytes (drop n l)
-bytes-drop n l k i = rw (getD-drop n l i 0) (k (n + i))
-
 module _ {n : ℕ} {t : List ℕ} (is : IsTables n t) where
-  entry-steps : (row x : ℕ) → row < n → entry t row x ≡ bitSteps (8 * (row + 1)) (bitAnd x 255)
-  unfolding entry
+  entry-steps : (row x : ℕ) → row < n → tableEntry t row x ≡ bitSteps (8 * (row + 1)) (bitAnd x 255)
+  unfolding tableEntry
   entry-steps row x h = is .rule row (bitAnd x 255) h (mask-lt x 8)
 
   pub by-bytes : 0 < n → (c : ℕ) (l : List ℕ) → Bytes l → byBytes t c l ≡ byteSteps c l
   unfolding byBytes byteSteps
   by-bytes h c [] k = refl
   by-bytes h c (b ∷ l) k =
-      by-bytes h (bitXor (entry t 0 (bitXor c b)) (c / 256)) l (λ i. k (suc i))
+      by-bytes h (bitXor (tableEntry t 0 (bitXor c b)) (c / 256)) l (λ i. k (suc i))
       ∙ ap (λ (x : ℕ). byteSteps x l)
       (ap (λ (x : ℕ). bitXor x (c / 256)) (entry-steps 0 (bitXor c b) h) ∙ byte-step c b (k 0))
 
@@ -53,7 +45,7 @@ module _ {n : ℕ} {t : List ℕ} (is : IsTables n t) where
   shares-steps c [] m h k = ap (λ (x : ℕ). bitXor x (byteSteps c m)) (share-nil t (length m) c) ∙ xor-zero-l (byteSteps c m)
   shares-steps c (b ∷ l) m h k =
       let row = length m + length l in
-      let e = entry t row (bitXor c b) in
+      let e = tableEntry t row (bitXor c b) in
       let x = bitAnd (bitXor c b) 255 in
       let s : 8 * (row + 1) ≡ 8 * suc (length (l ++ m)) = omega (arith, length-append l m) in
       ap (λ (y : ℕ). bitXor y (byteSteps (left (c / 256) l) m)) (share-cons t (length m) c b l (k 0))

@@ -1,5 +1,6 @@
+pub mod ByteLaws
 pub mod Linear
 pub mod Shares
 pub mod ByTable
 pub mod Rule
-pub mod Walk
+pub mod TableSteps

@@ -11,27 +11,27 @@ pub record IsTables (n : ℕ) (t : List ℕ) : Type 0 where
   pub rule : (j k : ℕ) → j < n → k < 256 → getD t (j * 256 + k) 0 ≡ bitSteps (8 * (j + 1)) k
 
 -- the entry of a row for a number's low byte
-unfoldable pub entry : List ℕ → ℕ → ℕ → ℕ
-entry t row x = getD t (row * 256 + bitAnd x 255) 0
+unfoldable pub tableEntry : List ℕ → ℕ → ℕ → ℕ
+tableEntry t row x = getD t (row * 256 + bitAnd x 255) 0
 
 -- a byte at a time
 unfoldable pub byBytes : List ℕ → ℕ → List ℕ → ℕ
 byBytes t c [] = c
-byBytes t c (b ∷ bs) = byBytes t (bitXor (entry t 0 (bitXor c b)) (c / 256)) bs
+byBytes t c (b ∷ bs) = byBytes t (bitXor (tableEntry t 0 (bitXor c b)) (c / 256)) bs
 
 -- the number in some bytes, least byte first
-unfoldable pub number : List ℕ → ℕ
-number [] = 0
-number (b ∷ bs) = b + 256 * number bs
+unfoldable pub numberOf : List ℕ → ℕ
+numberOf [] = 0
+numberOf (b ∷ bs) = b + 256 * numberOf bs
 
 -- what the n low bytes of a number add with `after` bytes behind them: each by the row for as many bytes as come after it
 unfoldable pub sharesOf : List ℕ → ℕ → ℕ → ℕ → ℕ
 sharesOf t after zero x = 0
-sharesOf t after (suc n) x = bitXor (entry t (after + n) x) (sharesOf t after n (x / 256))
+sharesOf t after (suc n) x = bitXor (tableEntry t (after + n) x) (sharesOf t after n (x / 256))
 
 -- the same of some bytes, the register joined to them
 unfoldable pub shares : List ℕ → ℕ → ℕ → List ℕ → ℕ
-shares t after c bs = sharesOf t after (length bs) (bitXor c (number bs))
+shares t after c bs = sharesOf t after (length bs) (bitXor c (numberOf bs))
 
 -- sixteen bytes: the last twelve do not depend on the register
 unfoldable pub block : List ℕ → ℕ → List ℕ → ℕ

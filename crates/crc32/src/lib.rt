@@ -8,7 +8,7 @@ ghost use mathlib.Core.Path.{_≡_};
 ghost use Prim.Native.Nat.{_+_, _*_, _<_, _≤_};
 ghost use lib.ListN.{length};
 ghost use Rattle.crc32.specs.Crc32.{crc32Of};
-ghost use Rattle.crc32.specs.Table.{IsTables, entry, byBytes, shares, block, byWords, byBlocks, crc32By, Copied};
+ghost use Rattle.crc32.specs.Table.{IsTables, tableEntry, byBytes, shares, block, byWords, byBlocks, crc32By, Copied};
 
 // Start and final exclusive-or.
 const ONES: u32 = 0xFFFF_FFFF;
@@ -18,7 +18,7 @@ const LONG: usize = 112;
 
 fn look(t: &[u32], row: usize, n: u32) -> u32
     requires { ⌜ (row < 16) × ((row + 1) * 256 ≤ length (now t)) ⌝ }
-    ensures { λ r. ⌜ r ≡ entry (now (t .entry)) row n ⌝ }
+    ensures { λ r. ⌜ r ≡ tableEntry (now (t .entry)) row n ⌝ }
 {
     t[row * 256 + (n & 0xff) as usize]
 }

@@ -1,7 +1,7 @@
 // Compares both forms of the checksum with the published CRC-32 vectors, and with zlib's values at lengths around each boundary of the
 // forms: a line a vector, then the count.
 use libc::STDOUT_FILENO;
-use tally::Tally;
+use score::Score;
 
 // zlib's CRC-32 of the bytes 0, 1, 2, .., 255, 0, .. up to each length; that of 32 is published too.
 const LENGTHS: [usize; 26] = [
@@ -91,33 +91,33 @@ fn same(t: &[u32; 4096], name: &[u8], byte: u8, want: u32) -> bool {
     named(t, name, &bytes, want)
 }
 
-fn published(t: &[u32; 4096]) -> Tally {
-    let mut tally = Tally { right: 0, wrong: 0 };
-    tally = tally.add(named(t, b"the empty string", b"", 0));
-    tally = tally.add(text(t, b"123456789", 0xCBF43926));
-    tally = tally.add(text(t, b"a", 0xE8B7BE43));
-    tally = tally.add(text(t, b"abc", 0x352441C2));
-    tally = tally.add(text(t, b"message digest", 0x20159D7F));
-    tally = tally.add(text(t, b"abcdefghijklmnopqrstuvwxyz", 0x4C2750BD));
-    tally = tally.add(text(
+fn published(t: &[u32; 4096]) -> Score {
+    let mut score = Score { right: 0, wrong: 0 };
+    score = score.add(named(t, b"the empty string", b"", 0));
+    score = score.add(text(t, b"123456789", 0xCBF43926));
+    score = score.add(text(t, b"a", 0xE8B7BE43));
+    score = score.add(text(t, b"abc", 0x352441C2));
+    score = score.add(text(t, b"message digest", 0x20159D7F));
+    score = score.add(text(t, b"abcdefghijklmnopqrstuvwxyz", 0x4C2750BD));
+    score = score.add(text(
         t,
         b"ABCDEFGHIJKLMNOPQRSTUVWXYZabcdefghijklmnopqrstuvwxyz0123456789",
         0x1FC2E6D2,
     ));
-    tally = tally.add(text(
+    score = score.add(text(
         t,
         b"12345678901234567890123456789012345678901234567890123456789012345678901234567890",
         0x7CA94A72,
     ));
-    tally = tally.add(text(
+    score = score.add(text(
         t,
         b"The quick brown fox jumps over the lazy dog",
         0x414FA339,
     ));
-    tally = tally.add(named(t, b"PNG's chunk type IEND", b"IEND", 0xAE426082));
-    tally = tally.add(same(t, b"32 zeros", 0, 0x190A55AD));
-    tally = tally.add(same(t, b"32 bytes of 0xFF", 0xFF, 0xFF6CAB0B));
-    tally
+    score = score.add(named(t, b"PNG's chunk type IEND", b"IEND", 0xAE426082));
+    score = score.add(same(t, b"32 zeros", 0, 0x190A55AD));
+    score = score.add(same(t, b"32 bytes of 0xFF", 0xFF, 0xFF6CAB0B));
+    score
 }
 
 fn upward() -> [u8; 4097] {
@@ -141,19 +141,19 @@ fn prefix(t: &[u32; 4096], bytes: &[u8], n: usize, want: u32) -> bool {
     right
 }
 
-fn lengths(start: Tally, t: &[u32; 4096]) -> Tally {
+fn lengths(start: Score, t: &[u32; 4096]) -> Score {
     let bytes = upward();
-    let mut tally = start;
+    let mut score = start;
     let mut i: usize = 0;
     while i < 26 {
-        tally = tally.add(prefix(t, &bytes, LENGTHS[i], CRCS[i]));
+        score = score.add(prefix(t, &bytes, LENGTHS[i], CRCS[i]));
         i += 1;
     }
-    tally
+    score
 }
 
 fn main() {
     let t = crc32::tables();
-    let tally = lengths(published(&t), &t);
-    tally.print();
+    let score = lengths(published(&t), &t);
+    score.print();
 }

@@ -1,4 +1,2 @@
-pub mod StateLaws
-mod LoopLaws
 mod StoreLaws
-pub mod RunLaws
+pub mod ExportRunLaws

@@ -8,23 +8,23 @@ use lib.ListN.{length}
 use borrow.Author.Tests.{le-leb, lt-leb}
 use Rattle.crc32.specs.Crc32.{Bytes}
 use Rattle.bank.specs.declared.variable.VarType.{VarType}
+use Rattle.records.specs.Checked.{isSome}
+use Rattle.book.specs.Edit.{remove}
+use Rattle.book.specs.Opening.{opening}
+use Rattle.book.specs.Call.{Call, edit, Answer, edited, refusal}
 use Rattle.nvram.specs.declared.state.Kind.{Kind}
 use Rattle.nvram.specs.declared.state.Kind.the-variants.{Empty, Invalid, Valid}
 use Rattle.nvram.specs.declared.state.Nvram.{Nvram}
-use Rattle.nvram.specs.Part.{given}
 use Rattle.nvram.specs.Layout.{view}
 use Rattle.nvram.specs.Ready.{activeEntry}
-use Rattle.nvram.specs.Edit.{remove}
-use Rattle.nvram.specs.Opening.{opening}
-use Rattle.nvram.specs.Call.{Call, edit, Answer, edited, refusal}
 use Rattle.nvram.specs.Contract.{call, Does, begun}
 use Rattle.nvram.proofs.CallLaws.{does-6, empty-valid, invalid-valid}
 use Rattle.nvram.proofs.ActiveLaws.{Sound, does-7}
-use Rattle.nvram.proofs.EditLaws.{does-remove}
-use Rattle.exports.specs.declared.state.Loaded.{Loaded}
-use Rattle.exports.specs.State.{stateSize, stored, readState, loaded}
-use Rattle.exports.specs.Store.{After, onState, exported, Tells, Calls, Start, stated, start, Opens}
-use Rattle.exports.proofs.StateLaws.{bytes-back, read-fine}
+use Rattle.variables.proofs.EditLaws.{does-remove}
+use Rattle.state_bytes.specs.declared.Loaded.{Loaded}
+use Rattle.state_bytes.specs.State.{stateSize, stored, readState, loaded}
+use Rattle.state_bytes.proofs.StateLaws.{bytes-back, read-state-fine}
+use Rattle.exports.specs.Store.{BytesAfter, onState, exported, Tells, Calls, Start, stated, start, ExportOpens}
 
 -- a remove leaves the state as it was
 
@@ -35,31 +35,31 @@ stays key typ s w g Invalid e = does-7 g (edit (remove key typ)) tt (invalid-val
 stays key typ s w g Valid e = does-remove g e key typ _ refl .state
 
 pub remove-stays : (key : List ℕ) (typ : VarType) (s : Nvram) (w : List ℕ) → Bytes w → length (s .banks) ≡ 16 → s ≡ call (edit (remove key typ)) s w .state
-remove-stays key typ s w k l = go (given (view s w)) refl
+remove-stays key typ s w k l = go (isSome (view s w)) refl
   where
-    go : (t : Bool) → given (view s w) ≡ t → s ≡ call (edit (remove key typ)) s w .state
+    go : (t : Bool) → isSome (view s w) ≡ t → s ≡ call (edit (remove key typ)) s w .state
     go true e = stays key typ s w (record { bytes = k; long = l; ok = e }) (activeEntry s .kind) refl
     go false e = does-6 (edit (remove key typ)) s w e .state
 
 -- what was loaded
 
-pub load-none : (o : Option Nvram) (r : Loaded) → r ≡ loaded o → r .ok ≡ false → o ≡ none
-load-none none r e h = refl
-load-none (some s) r e h = let z : true ≡ false = sym (ap (λ (x : Loaded). x .ok) e) ∙ h in absurd (true≢false z)
+pub loaded-none : (o : Option Nvram) (r : Loaded) → r ≡ loaded o → r .ok ≡ false → o ≡ none
+loaded-none none r e h = refl
+loaded-none (some s) r e h = let z : true ≡ false = sym (ap (λ (x : Loaded). x .ok) e) ∙ h in absurd (true≢false z)
 
-pub load-some : (o : Option Nvram) (r : Loaded) → r ≡ loaded o → r .ok ≡ true → o ≡ some (r .state)
-load-some none r e h = let z : true ≡ false = sym h ∙ ap (λ (x : Loaded). x .ok) e in absurd (true≢false z)
-load-some (some s) r e h = ap (λ (x : Loaded). some (x .state)) (sym e)
+pub loaded-some : (o : Option Nvram) (r : Loaded) → r ≡ loaded o → r .ok ≡ true → o ≡ some (r .state)
+loaded-some none r e h = let z : true ≡ false = sym h ∙ ap (λ (x : Loaded). x .ok) e in absurd (true≢false z)
+loaded-some (some s) r e h = ap (λ (x : Loaded). some (x .state)) (sym e)
 
 -- a call by what it tells and leaves
 
 module _ (c : Call) (bs w o : List ℕ) (r : ℕ) (q o′ : List ℕ) where
-  abbrev Tells-of : After → Type 0
+  abbrev Tells-of : BytesAfter → Type 0
   Tells-of y = Tells c (y .answer) (y .out) o r q o′
 
-  calls-as : (y : After) → exported c bs w ≡ y → Tells-of y → (bs′ w′ : List ℕ) → bs′ ≡ y .state → w′ ≡ y .work → Calls c bs w o r q bs′ w′ o′
+  calls-as : (y : BytesAfter) → exported c bs w ≡ y → Tells-of y → (bs′ w′ : List ℕ) → bs′ ≡ y .state → w′ ≡ y .work → Calls c bs w o r q bs′ w′ o′
   calls-as y e t bs′ w′ s v =
-      record { tells = subst Tells-of (sym e) t; state = s ∙ sym (ap (λ (z : After). z .state) e); work = v ∙ sym (ap (λ (z : After). z .work) e) }
+      record { tells = subst Tells-of (sym e) t; state = s ∙ sym (ap (λ (z : BytesAfter). z .state) e); work = v ∙ sym (ap (λ (z : BytesAfter). z .work) e) }
 
   -- bytes that hold no state
   pub calls-6 : readState bs ≡ none → Tells c (refusal c 6) [] o r q o′ → Calls c bs w o r q bs w o′
@@ -84,11 +84,11 @@ pub removes : (key : List ℕ) (typ : VarType) (bs w : List ℕ) (s : Nvram) →
     → Calls (edit (remove key typ)) bs w [] r [] bs w′ []
 removes key typ bs w s e k kw r s′ w′ d =
     keeps (edit (remove key typ)) bs w [] r [] [] s e (edited r) [] (refl, refl, refl) w′ k
-    (record { answer = d .answer; out = d .out; state = remove-stays key typ s w kw (read-fine bs s k e .banks-long); work = d .work })
+    (record { answer = d .answer; out = d .out; state = remove-stays key typ s w kw (read-state-fine bs s k e .banks-long); work = d .work })
 
 -- an opening
 
-pub opens-6 : (image bs w : List ℕ) → length bs < stateSize → Opens image bs w 6 bs w
+pub opens-6 : (image bs w : List ℕ) → length bs < stateSize → ExportOpens image bs w 6 bs w
 unfolding start
 opens-6 image bs w h = let e = lt-leb stateSize (length bs) h in record { number = rw e; state = rw e; work = rw e }
 
@@ -96,7 +96,7 @@ pub opens : (image bs w : List ℕ) → stateSize ≤ length bs → (r : ℕ) (s
     → s ≡ begun (opening image (length w)) w .state
     → w′ ≡ begun (opening image (length w)) w .work
     → bs′ ≡ stored s bs
-    → Opens image bs w r bs′ w′
+    → ExportOpens image bs w r bs′ w′
 unfolding start
 opens image bs w h r s bs′ w′ n e v b =
     let t : start image bs w ≡ stated (begun (opening image (length w)) w) bs = rw (le-leb stateSize (length bs) h) in

@@ -9,27 +9,27 @@ use lib.Dec.{eqb, leb}
 use Rattle.buffers.specs.Bytes.{onto}
 use Rattle.bank.specs.declared.variable.VarType.{VarType}
 use Rattle.bank.specs.declared.variable.VarType.the-variants.{Common, System}
+use Rattle.book.specs.Call.{Call, edit, lookup, fetch, commit, wholeImage, Answer, edited, looked, handed, committed, joined, number, refusal}
+use Rattle.book.specs.Opening.{opening}
 use Rattle.nvram.specs.declared.state.Nvram.{Nvram}
-use Rattle.nvram.specs.Call.{Call, edit, lookup, fetch, commit, wholeImage, Answer, edited, looked, handed, committed, joined, number, refusal}
 use Rattle.nvram.specs.Contract.{call, Begun, begun}
-use Rattle.nvram.specs.Opening.{opening}
-use Rattle.exports.specs.State.{stateSize, readState, stored}
+use Rattle.state_bytes.specs.State.{stateSize, readState, stored}
 
 -- 0 is Common, every other number System
-abbrev pub typeOf : ℕ → VarType
-typeOf n = cond (eqb n 0) Common System
+abbrev pub varTypeOf : ℕ → VarType
+varTypeOf n = cond (eqb n 0) Common System
 
 -- a call
 
 -- the answer, the bytes handed back, the state's bytes and the work area
-pub record After : Type 0 where
+pub record BytesAfter : Type 0 where
   pub answer : Answer
   pub out : List ℕ
   pub state : List ℕ
   pub work : List ℕ
 
 -- bytes that hold no state are refused by 6, and nothing changes
-unfoldable pub onState : Option Nvram → Call → List ℕ → List ℕ → After
+unfoldable pub onState : Option Nvram → Call → List ℕ → List ℕ → BytesAfter
 onState none c bs w = record { answer = refusal c 6; out = []; state = bs; work = w }
 onState (some s) c bs w =
     record {
@@ -39,7 +39,7 @@ onState (some s) c bs w =
       work = call c s w .work;
     }
 
-unfoldable pub exported : Call → List ℕ → List ℕ → After
+unfoldable pub exported : Call → List ℕ → List ℕ → BytesAfter
 exported c bs w = onState (readState bs) c bs w
 
 -- what is answered beside a number: of a lookup found 1 or 0, place and length; of a commit 1 or 0 for an erase request, its offset, the
@@ -98,7 +98,7 @@ unfoldable pub start : List ℕ → List ℕ → List ℕ → Start
 start image bs w =
     cond (leb stateSize (length bs)) (stated (begun (opening image (length w)) w) bs) (record { number = 6; state = bs; work = w })
 
-pub record Opens (image bs w : List ℕ) (r : ℕ) (bs′ w′ : List ℕ) : Type 0 where
+pub record ExportOpens (image bs w : List ℕ) (r : ℕ) (bs′ w′ : List ℕ) : Type 0 where
   pub number : r ≡ start image bs w .number
   pub state : bs′ ≡ start image bs w .state
   pub work : w′ ≡ start image bs w .work

@@ -1,5 +1,4 @@
 // Entry points for C and Rust. A slice crosses as a pointer and a length, an array as a pointer.
 mod checksum;
 mod partition;
-mod state;
 mod store;

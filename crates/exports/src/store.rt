@@ -1,23 +1,25 @@
 // The store's calls. The state travels as bytes, of which specs/State has the layout.
-use super::state::STATE;
-use super::state::load;
-use super::state::store;
 use bank::VarType;
-use nvram::Lookup;
-use nvram::Nvram;
-use writer::Applied;
-use writer::Erase;
+use commit::Applied;
+use commit::Erase;
+use state_bytes::STATE;
+use state_bytes::load;
+use state_bytes::store;
+use variables::Lookup;
+use variables::get_variable;
+use variables::insert_variable;
+use variables::remove_variable;
 ghost use mathlib.Core.Path.{_≡_};
 ghost use mathlib.Core.List.{[]};
 ghost use lib.ListN.{length};
-ghost use Rattle.nvram.specs.Edit.{plain, insert, remove};
-ghost use Rattle.nvram.specs.Call.{edit, lookup, fetch, commit, wholeImage, number as numberOf};
-ghost use Rattle.nvram.specs.Contract.{told};
-ghost use Rattle.writer.specs.Answer.{applied};
-ghost use Rattle.exports.specs.Store.{typeOf, fieldsOf, Calls, Opens};
+ghost use Rattle.book.specs.Edit.{plain, insert, remove};
+ghost use Rattle.book.specs.Call.{edit, lookup, fetch, commit, wholeImage, number as numberOf};
+ghost use Rattle.variables.specs.Told.{lookupAnswer};
+ghost use Rattle.commit.specs.Applied.{applied};
+ghost use Rattle.exports.specs.Store.{varTypeOf, fieldsOf, Calls, ExportOpens};
 
 fn var_type(typ: u32) -> VarType
-    ensures { λ r. ⌜ r ≡ typeOf typ ⌝ }
+    ensures { λ r. ⌜ r ≡ varTypeOf typ ⌝ }
 {
     if typ == 0 {
         VarType::Common
@@ -29,12 +31,12 @@ fn var_type(typ: u32) -> VarType
 // Opens an image into state and work area; state bytes too few are refused before anything is written.
 #[no_mangle]
 pub extern "C" fn feqyondil_open(image: &[u8], state: &mut [u8], work: &mut [u8]) -> u32
-    ensures { λ r. ⌜ Opens (now (image .entry)) (now (state .entry)) (now (work .entry)) r (now (state .exit)) (now (work .exit)) ⌝ }
+    ensures { λ r. ⌜ ExportOpens (now (image .entry)) (now (state .entry)) (now (work .entry)) r (now (state .exit)) (now (work .exit)) ⌝ }
 {
     if state.len() < STATE {
         return 6;
     }
-    let opened = Nvram::parse(image, work);
+    let opened = opening::parse(image, work);
     let after = opened.state;
     store(after, state);
     opened.number
@@ -49,14 +51,14 @@ pub extern "C" fn feqyondil_insert(
     value: &[u8],
     typ: u32,
 ) -> u32
-    ensures { λ r. ⌜ Calls (edit (insert plain (now (key .entry)) (now (value .entry)) (typeOf typ))) (now (state .entry)) (now (work .entry)) [] r [] (now (state .exit)) (now (work .exit)) [] ⌝ }
+    ensures { λ r. ⌜ Calls (edit (insert plain (now (key .entry)) (now (value .entry)) (varTypeOf typ))) (now (state .entry)) (now (work .entry)) [] r [] (now (state .exit)) (now (work .exit)) [] ⌝ }
 {
     let loaded = load(state);
     if !loaded.ok {
         return 6;
     }
     let before = loaded.state;
-    let edited = before.insert_variable(work, key, value, var_type(typ));
+    let edited = insert_variable(before, work, key, value, var_type(typ));
     let after = edited.state;
     store(after, state);
     edited.number
@@ -65,19 +67,19 @@ pub extern "C" fn feqyondil_insert(
 // Deletes the values of a key and type in the active bank, which leaves the state as it was.
 #[no_mangle]
 pub extern "C" fn feqyondil_remove(state: &[u8], work: &mut [u8], key: &[u8], typ: u32) -> u32
-    ensures { λ r. ⌜ Calls (edit (remove (now (key .entry)) (typeOf typ))) (now (state .entry)) (now (work .entry)) [] r [] (now (state .entry)) (now (work .exit)) [] ⌝ }
+    ensures { λ r. ⌜ Calls (edit (remove (now (key .entry)) (varTypeOf typ))) (now (state .entry)) (now (work .entry)) [] r [] (now (state .entry)) (now (work .exit)) [] ⌝ }
 {
     let loaded = load(state);
     if !loaded.ok {
         return 6;
     }
     let before = loaded.state;
-    let edited = before.remove_variable(work, key, var_type(typ));
+    let edited = remove_variable(before, work, key, var_type(typ));
     edited.number
 }
 
 fn number(found: Lookup) -> u32
-    ensures { λ r. ⌜ r ≡ numberOf (told found) ⌝ }
+    ensures { λ r. ⌜ r ≡ numberOf (lookupAnswer found) ⌝ }
 {
     match found {
         Lookup::At(_) => 0,
@@ -87,7 +89,7 @@ fn number(found: Lookup) -> u32
 }
 
 fn fields(found: Lookup) -> [u64; 3]
-    ensures { λ r. ⌜ r ≡ fieldsOf (told found) ⌝ }
+    ensures { λ r. ⌜ r ≡ fieldsOf (lookupAnswer found) ⌝ }
 {
     match found {
         Lookup::At(found) => [1, found.place as u64, found.long as u64],
@@ -105,7 +107,7 @@ pub extern "C" fn feqyondil_lookup(
     typ: u32,
     out: &mut [u64; 3],
 ) -> u32
-    ensures { λ r. ⌜ Calls (lookup (now (key .entry)) (typeOf typ)) (now (state .entry)) (now (work .entry)) [] r (now (out .exit)) (now (state .entry)) (now (work .entry)) [] ⌝ }
+    ensures { λ r. ⌜ Calls (lookup (now (key .entry)) (varTypeOf typ)) (now (state .entry)) (now (work .entry)) [] r (now (out .exit)) (now (state .entry)) (now (work .entry)) [] ⌝ }
 {
     let loaded = load(state);
     if !loaded.ok {
@@ -113,7 +115,7 @@ pub extern "C" fn feqyondil_lookup(
         return 6;
     }
     let before = loaded.state;
-    let found = before.get_variable(work, key, var_type(typ));
+    let found = get_variable(before, work, key, var_type(typ));
     *out = fields(found);
     number(found)
 }
@@ -127,14 +129,14 @@ pub extern "C" fn feqyondil_value(
     typ: u32,
     out: &mut [u8],
 ) -> usize
-    ensures { λ r. ⌜ Calls (fetch (now (key .entry)) (typeOf typ)) (now (state .entry)) (now (work .entry)) (now (out .entry)) r [] (now (state .entry)) (now (work .entry)) (now (out .exit)) ⌝ }
+    ensures { λ r. ⌜ Calls (fetch (now (key .entry)) (varTypeOf typ)) (now (state .entry)) (now (work .entry)) (now (out .entry)) r [] (now (state .entry)) (now (work .entry)) (now (out .exit)) ⌝ }
 {
     let loaded = load(state);
     if !loaded.ok {
         return 0;
     }
     let before = loaded.state;
-    let value = before.value(work, key, var_type(typ));
+    let value = variables::value(before, work, key, var_type(typ));
     buffers::copy(value, out);
     value.len()
 }
@@ -167,7 +169,7 @@ pub extern "C" fn feqyondil_commit(
         return 6;
     }
     let before = loaded.state;
-    let answer = writer::apply(before, work, output);
+    let answer = commit::apply(before, work, output);
     let after = answer.state;
     store(after, state);
     *out = requests(answer);
@@ -190,7 +192,7 @@ pub extern "C" fn feqyondil_whole_image(
         return 6;
     }
     let before = loaded.state;
-    let answer = writer::serialize(before, work, output);
+    let answer = whole_image::serialize(before, work, output);
     *out = [answer.length as u64];
     answer.number
 }

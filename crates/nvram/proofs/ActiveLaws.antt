@@ -12,28 +12,29 @@ use Rattle.bank.specs.declared.header.StoreHeader.{StoreHeader}
 use Rattle.bank.specs.Header.{headerBytes}
 use Rattle.bank.specs.Record.{sizes, recordsBytes}
 use Rattle.bank.specs.Bank.{Bank, Slot, invalid, valid, padded, bankBytes, partOf}
-use Rattle.bank.specs.Figures.{total}
+use Rattle.bank.specs.Totals.{total}
 use Rattle.bank.specs.WellFormed.{FineBank, FineRecords}
 use Rattle.bank.proofs.LengthLaws.{length-header, length-records}
+use Rattle.records.specs.Checked.{isSome}
+use Rattle.records.specs.Records.{Holds}
+use Rattle.book.specs.Book.{partSize, FineSlot, Book, FineBook, activeSlot}
+use Rattle.book.specs.Call.{Call, refusal, stay, step}
+use Rattle.book.proofs.BookLaws.{part-size, fine-at}
 use Rattle.nvram.specs.declared.state.Kind.the-variants.{Empty, Valid}
 use Rattle.nvram.specs.declared.state.Entry.{Entry}
 use Rattle.nvram.specs.declared.state.Nvram.{Nvram}
-use Rattle.nvram.specs.Part.{partSize, entry, entryOf, FineSlot, given}
-use Rattle.nvram.specs.Records.{Holds}
-use Rattle.nvram.specs.Book.{Book, FineBook, activeSlot}
+use Rattle.nvram.specs.Part.{entry, entryOf}
 use Rattle.nvram.specs.Layout.{layTable, layState, layParts, layWork, view}
 use Rattle.nvram.specs.Ready.{activeEntry}
-use Rattle.nvram.specs.Call.{Call, refusal, stay, step}
 use Rattle.nvram.specs.Contract.{Does}
-use Rattle.nvram.proofs.SlotLaws.{part-size}
-use Rattle.nvram.proofs.LayoutLaws.{lay-view, work-long, Split, split, table-at, fine-at}
+use Rattle.nvram.proofs.LayoutLaws.{lay-view, work-long, Split, split, table-at}
 use Rattle.nvram.proofs.CallLaws.{some-of, does, refusal-tally, kind-valid, OnActive, step-7}
 
 -- what is known once soundness was tested
 pub record Sound (s : Nvram) (w : List ℕ) : Type 0 where
   pub bytes : Bytes w
   pub long : length (s .banks) ≡ 16
-  pub ok : given (view s w) ≡ true
+  pub ok : isSome (view s w) ≡ true
 
 -- a Valid slot's part: header, records, 0xFF
 pub part-bytes : (k : Bank) → FineRecords (k .records)

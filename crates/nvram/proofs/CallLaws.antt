@@ -6,26 +6,27 @@ use mathlib.Core.Bool.{true, false}
 use mathlib.Core.Option.{Option, none, some}
 use native.Mathlib.Omega.{arith}
 use Rattle.bank.specs.Bank.{Bank, Slot, empty, invalid, valid}
+use Rattle.records.specs.Checked.{isSome}
+use Rattle.book.specs.Book.{Book, activeSlot}
+use Rattle.book.specs.Call.{Call, edit, lookup, fetch, commit, wholeImage, Answer, refusal, Outcome, stay, bySlot, step}
+use Rattle.book.specs.Tally.{Tally, tallied}
 use Rattle.nvram.specs.declared.state.Kind.{Kind}
 use Rattle.nvram.specs.declared.state.Kind.the-variants.{Empty, Invalid, Valid}
 use Rattle.nvram.specs.declared.state.Nvram.{Nvram}
-use Rattle.nvram.specs.Part.{entryOf, given}
-use Rattle.nvram.specs.Book.{Book, activeSlot}
+use Rattle.nvram.specs.Part.{entryOf}
 use Rattle.nvram.specs.Layout.{layState, layWork, view}
-use Rattle.nvram.specs.Call.{Call, edit, lookup, fetch, commit, wholeImage, Answer, refusal, Outcome, stay, bySlot, step}
-use Rattle.nvram.specs.Tally.{Tally, tallied}
 use Rattle.nvram.specs.Contract.{onBook, call, Does}
 
-pub some-of : {A : Type 0} (o : Option A) → given o ≡ true → (x : A) × (o ≡ some x)
+pub some-of : {A : Type 0} (o : Option A) → isSome o ≡ true → (x : A) × (o ≡ some x)
 some-of none e = let z : _≡_ {A = ℕ} 0 1 = cc in absurd (omega arith)
 some-of (some x) e = (x, refl)
 
-none-of : {A : Type 0} (o : Option A) → given o ≡ false → o ≡ none
+none-of : {A : Type 0} (o : Option A) → isSome o ≡ false → o ≡ none
 none-of none e = refl
 none-of (some x) e = let z : _≡_ {A = ℕ} 0 1 = cc in absurd (omega arith)
 
 -- refused by 6: state and work area are not sound
-pub does-6 : (c : Call) (s : Nvram) (w : List ℕ) → given (view s w) ≡ false → Does c s w (refusal c 6) [] s w
+pub does-6 : (c : Call) (s : Nvram) (w : List ℕ) → isSome (view s w) ≡ false → Does c s w (refusal c 6) [] s w
 unfolding call onBook
 does-6 c s w e =
     let q : view s w ≡ none = none-of (view s w) e in

@@ -10,18 +10,17 @@ use lib.ListN.{length, getD, set, take, drop, replicate, length-append, length-d
 use lib.Seq.{take-at, drop-at, take-add, length-take-le}
 use borrow.Author.Tests.{eqb-true, le-leb, leb-true, lt-ltb, ltb-true}
 use Rattle.crc32.specs.Crc32.{Bytes}
-use Rattle.crc32.proofs.ByTable.{bytes-take, bytes-drop}
-use Rattle.bank.specs.Bank.{Bank, Slot, invalid, valid, partOf}
-use Rattle.bank.specs.Figures.{total}
-use Rattle.bank.specs.WellFormed.{FineBank}
+use Rattle.crc32.proofs.ByteLaws.{bytes-take, bytes-drop}
+use Rattle.buffers.proofs.Laws.{and-both}
+use Rattle.bank.specs.Bank.{Slot, invalid, partOf}
+use Rattle.bank.specs.Totals.{total}
+use Rattle.book.specs.Book.{partSize, Book, FineSlots, FineBook}
 use Rattle.nvram.specs.declared.state.Kind.{Kind}
 use Rattle.nvram.specs.declared.state.Kind.the-variants.{Empty, Invalid, Valid}
 use Rattle.nvram.specs.declared.state.Entry.{Entry}
 use Rattle.nvram.specs.declared.state.Nvram.{Nvram}
-use Rattle.nvram.specs.Part.{partSize, entry, entryOf, FineSlot, viewSlot}
-use Rattle.nvram.specs.Book.{Book, FineSlots, FineBook, withActive}
+use Rattle.nvram.specs.Part.{entry, entryOf, viewSlot}
 use Rattle.nvram.specs.Layout.{layTable, layState, layParts, layWork, isEmpty, isFree, allFree, prependSlot, viewSlots, bookWith, inRange, view}
-use Rattle.nvram.proofs.RecordLaws.{and-both}
 use Rattle.nvram.proofs.SlotLaws.{slot-length, slot-view, Laid, slot-back, held}
 
 -- lengths
@@ -83,26 +82,6 @@ table-at ss i h = entries-at ss (replicate (16 - length ss) (entry Empty 0 0)) i
 pub table-set : (ss : List Slot) (i : ℕ) (x : Slot) → i < length ss → layTable (set ss i x) ≡ set (layTable ss) i (entryOf x)
 unfolding layTable
 table-set ss i x h = rw (length-set ss i x) (entries-set ss (replicate (16 - length ss) (entry Empty 0 0)) i x h)
-
-pub fine-at : (ss : List Slot) (i : ℕ) → FineSlots ss → FineSlot (getD ss i invalid)
-fine-at [] i f = tt
-fine-at (s ∷ ss) zero f = f .0
-fine-at (s ∷ ss) (suc i) f = fine-at ss i (f .1)
-
-pub fine-set : (ss : List Slot) (i : ℕ) (x : Slot) → FineSlots ss → FineSlot x → FineSlots (set ss i x)
-fine-set [] i x f g = tt
-fine-set (s ∷ ss) zero x f g = (g, f .1)
-fine-set (s ∷ ss) (suc i) x f g = (f .0, fine-set ss i x (f .1) g)
-
-pub fine-with : (b : Book) (k : Bank) → FineBook b → FineBank k → total k ≤ partSize → FineBook (withActive b k)
-fine-with b k f g t =
-    record {
-      low = f .low;
-      high = f .high;
-      inside = f .inside;
-      long = length-set (b .slots) (b .active) (valid k) ∙ f .long;
-      slots-fine = fine-set (b .slots) (b .active) (valid k) (f .slots-fine) (g, t);
-    }
 
 -- free entries
 

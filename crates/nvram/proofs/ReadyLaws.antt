@@ -6,25 +6,25 @@ use mathlib.Core.Bool.{Bool, true, false, cond}
 use native.Mathlib.Omega.{arith}
 use lib.ListN.{length}
 use Rattle.crc32.specs.Crc32.{Bytes}
+use Rattle.records.specs.Checked.{isSome}
+use Rattle.book.specs.Call.{Call, refusal}
 use Rattle.nvram.specs.declared.ready.Ready.{Ready}
 use Rattle.nvram.specs.declared.ready.Ready.the-variants.{Refused, Records}
 use Rattle.nvram.specs.declared.state.Kind.{Kind}
 use Rattle.nvram.specs.declared.state.Kind.the-variants.{Empty, Invalid, Valid}
 use Rattle.nvram.specs.declared.state.Nvram.{Nvram}
-use Rattle.nvram.specs.Part.{given}
 use Rattle.nvram.specs.Layout.{view}
 use Rattle.nvram.specs.Ready.{activeEntry, byKind, readyOf}
-use Rattle.nvram.specs.Call.{Call, refusal}
 use Rattle.nvram.specs.Contract.{Does}
 use Rattle.nvram.proofs.CallLaws.{OnActive, does-6, empty-valid, invalid-valid}
 use Rattle.nvram.proofs.ActiveLaws.{Sound, does-7}
 
 module _ (s : Nvram) (w : List ℕ) where
-  pub ready-6 : given (view s w) ≡ false → Refused 6 ≡ readyOf s w
+  pub ready-6 : isSome (view s w) ≡ false → Refused 6 ≡ readyOf s w
   unfolding readyOf
   ready-6 e = simp e
 
-  pub ready-as : given (view s w) ≡ true → byKind (activeEntry s .kind) s ≡ readyOf s w
+  pub ready-as : isSome (view s w) ≡ true → byKind (activeEntry s .kind) s ≡ readyOf s w
   unfolding readyOf
   ready-as e = simp e
 
@@ -36,17 +36,17 @@ pub record Standing (s : Nvram) (w : List ℕ) (from to : ℕ) : Type 0 where
   pub to-is : to ≡ s .active * 131072 + activeEntry s .total
 
 module _ {s : Nvram} {w : List ℕ} (bytes : Bytes w) (long : length (s .banks) ≡ 16) {r : Ready} (e : r ≡ readyOf s w) where
-  known : given (view s w) ≡ true → Sound s w
+  known : isSome (view s w) ≡ true → Sound s w
   known g = record { bytes = bytes; long = long; ok = g }
 
   pub refused : (k : ℕ) (c : Call) → OnActive c → r ≡ Refused k → Does c s w (refusal c k) [] s w
   unfolding readyOf byKind
-  refused k c u q = go (given (view s w)) (activeEntry s .kind) refl refl (sym q ∙ e)
+  refused k c u q = go (isSome (view s w)) (activeEntry s .kind) refl refl (sym q ∙ e)
     where
       number : (n : ℕ) → Refused k ≡ Refused n → Does c s w (refusal c n) [] s w → Does c s w (refusal c k) [] s w
       number n p d = let z : n ≡ k = cc in subst (λ (i : ℕ). Does c s w (refusal c i) [] s w) z d
 
-      go : (g : Bool) (x : Kind) → given (view s w) ≡ g → activeEntry s .kind ≡ x → Refused k ≡ cond g (byKind x s) (Refused 6)
+      go : (g : Bool) (x : Kind) → isSome (view s w) ≡ g → activeEntry s .kind ≡ x → Refused k ≡ cond g (byKind x s) (Refused 6)
           → Does c s w (refusal c k) [] s w
       go false x a b p = number 6 p (does-6 c s w a)
       go true Empty a b p = number 7 p (does-7 (known a) c u (empty-valid _ b))
@@ -55,9 +55,9 @@ module _ {s : Nvram} {w : List ℕ} (bytes : Bytes w) (long : length (s .banks) 
 
   pub standing : (from to : ℕ) → r ≡ Records from to → Standing s w from to
   unfolding readyOf byKind
-  standing from to q = go (given (view s w)) (activeEntry s .kind) refl refl (sym q ∙ e)
+  standing from to q = go (isSome (view s w)) (activeEntry s .kind) refl refl (sym q ∙ e)
     where
-      go : (g : Bool) (x : Kind) → given (view s w) ≡ g → activeEntry s .kind ≡ x → Records from to ≡ cond g (byKind x s) (Refused 6)
+      go : (g : Bool) (x : Kind) → isSome (view s w) ≡ g → activeEntry s .kind ≡ x → Records from to ≡ cond g (byKind x s) (Refused 6)
           → Standing s w from to
       go false x a b p = let z : _≡_ {A = ℕ} 0 1 = cc in absurd (omega arith)
       go true Empty a b p = let z : _≡_ {A = ℕ} 0 1 = cc in absurd (omega arith)

@@ -9,37 +9,34 @@ use lib.ListN.{length, getD, set, take, drop, replicate, length-drop, take-appen
 use lib.Seq.{take-at, drop-at, drop-drop, length-take-le, set-getD}
 use borrow.Author.Tests.{eq-eqb, eqb-true, le-leb, leb-true}
 use Rattle.crc32.specs.Crc32.{Bytes}
-use Rattle.crc32.proofs.ByTable.{bytes-take, bytes-drop}
+use Rattle.crc32.proofs.ByteLaws.{bytes-take, bytes-drop}
 use Rattle.buffers.specs.Bytes.{allFF}
-use Rattle.buffers.proofs.Laws.{all-ff-is, all-ff-replicate}
+use Rattle.buffers.proofs.Laws.{all-ff-is, all-ff-replicate, and-both}
 use Rattle.bank.specs.declared.header.StoreHeader.{StoreHeader}
 use Rattle.bank.specs.declared.header.Head.{Head}
 use Rattle.bank.specs.declared.header.Head.the-variants.{Good, Signature, Version, Size}
 use Rattle.bank.specs.Number.{le32}
 use Rattle.bank.specs.Header.{headerBytes, readHeader}
 use Rattle.bank.specs.Record.{Record, sizes, recordsBytes}
-use Rattle.bank.specs.Bank.{Bank, Slot, empty, invalid, valid, padded, bankBytes, partOf}
-use Rattle.bank.specs.Read.{bankOf}
-use Rattle.bank.specs.Figures.{total}
+use Rattle.bank.specs.Bank.{Bank, Slot, empty, invalid, valid, padded, bankBytes, partOf, bankOf}
+use Rattle.bank.specs.Totals.{total}
 use Rattle.bank.specs.WellFormed.{FineRecords, FineBank}
-use Rattle.bank.proofs.LengthLaws.{length-header, length-records, length-bank, Holds, length-part}
+use Rattle.bank.proofs.LengthLaws.{length-header, length-records, length-bank, FitsPart, length-part}
 use Rattle.bank.proofs.HeaderLaws.{header-back}
 use Rattle.bank.proofs.ReadBank.{head-fine}
 use Rattle.bank.proofs.WriteLaws.{headed, header-normal}
+use Rattle.records.specs.View.{viewRecords}
+use Rattle.records.proofs.RecordLaws.{view-records, records-back}
+use Rattle.book.specs.Book.{partSize, FineSlot}
 use Rattle.nvram.specs.declared.state.Kind.{Kind}
 use Rattle.nvram.specs.declared.state.Kind.the-variants.{Empty, Invalid, Valid}
 use Rattle.nvram.specs.declared.state.Entry.{Entry}
-use Rattle.nvram.specs.Part.{partSize, entry, entryOf, FineSlot, viewRecords, slotWith, viewHead, isBlank, viewKind, viewSlot}
-use Rattle.nvram.proofs.RecordLaws.{and-both, view-records, records-back}
-
-pub part-size : partSize ≡ 131072
-unfolding partSize
-part-size = refl
+use Rattle.nvram.specs.Part.{entry, entryOf, slotWith, viewHead, isBlank, viewKind, viewSlot}
 
 pub slot-length : (k : Slot) → FineSlot k → length (partOf partSize k) ≡ partSize
 slot-length k f = length-part partSize k (holds k f)
   where
-    holds : (k : Slot) → FineSlot k → Holds partSize k
+    holds : (k : Slot) → FineSlot k → FitsPart partSize k
     holds empty f = tt
     holds invalid f = tt
     holds (valid b) f = (f .0 .records-fine, f .1)

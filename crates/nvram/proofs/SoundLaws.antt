@@ -9,20 +9,23 @@ use lib.ListN.{length, getD, take, drop, drop-of-length-le}
 use lib.Seq.{drop-cons}
 use borrow.Author.Tests.{eq-eqb, ne-eqb, le-leb, lt-leb}
 use Rattle.buffers.specs.Bytes.{allFF}
-use Rattle.buffers.proofs.Walk.{Both}
+use Rattle.buffers.proofs.LoopSteps.{Both}
 use Rattle.bank.specs.declared.header.StoreHeader.{StoreHeader}
 use Rattle.bank.specs.declared.header.Head.{Head}
 use Rattle.bank.specs.declared.header.Head.the-variants.{Good}
 use Rattle.bank.specs.Header.{readHeader}
 use Rattle.bank.specs.Record.{Record}
 use Rattle.bank.specs.Bank.{Slot, empty, invalid}
-use Rattle.nvram.specs.declared.figures.Figures.{Figures}
+use Rattle.records.specs.declared.figures.Figures.{Figures}
+use Rattle.records.specs.View.{viewRecords}
+use Rattle.records.specs.Figures.{noFigures}
+use Rattle.records.specs.Checked.{checked, recordsFigures}
+use Rattle.book.specs.Book.{partSize}
 use Rattle.nvram.specs.declared.state.Kind.{Kind}
 use Rattle.nvram.specs.declared.state.Kind.the-variants.{Empty, Invalid, Valid}
 use Rattle.nvram.specs.declared.state.Entry.{Entry}
-use Rattle.nvram.specs.Part.{partSize, entry, viewRecords, slotWith, viewHead, isBlank, viewKind, viewSlot}
-use Rattle.nvram.specs.Figures.{noFigures}
-use Rattle.nvram.specs.Checked.{checked, recordsFigures, slotFigures}
+use Rattle.nvram.specs.Part.{entry, slotWith, viewHead, isBlank, viewKind, viewSlot}
+use Rattle.nvram.specs.SlotFigures.{slotFigures}
 use Rattle.nvram.specs.Layout.{isFree, allFree}
 
 -- an entry and a part that hold nothing

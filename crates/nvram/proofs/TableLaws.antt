@@ -12,16 +12,18 @@ use lib.Seq.{drop-cons, drop-drop}
 use lib.Dec.{eqb}
 use borrow.Author.Tests.{eq-eqb, ne-eqb, le-leb, lt-leb, lt-ltb, le-ltb}
 use Rattle.bank.specs.Bank.{Slot}
-use Rattle.nvram.specs.declared.figures.Figures.{Figures}
-use Rattle.nvram.specs.declared.records.Checked.{Checked}
+use Rattle.records.specs.declared.figures.Figures.{Figures}
+use Rattle.records.specs.declared.check.Checked.{Checked}
+use Rattle.records.specs.Figures.{noFigures}
+use Rattle.records.specs.Checked.{checked, unsound}
+use Rattle.records.proofs.CheckedLaws.{checked-same}
+use Rattle.book.specs.Book.{partSize}
 use Rattle.nvram.specs.declared.state.Kind.the-variants.{Empty}
 use Rattle.nvram.specs.declared.state.Entry.{Entry}
 use Rattle.nvram.specs.declared.state.Nvram.{Nvram}
-use Rattle.nvram.specs.Part.{partSize, entry, viewSlot}
+use Rattle.nvram.specs.Part.{entry, viewSlot}
 use Rattle.nvram.specs.Layout.{allFree, prependSlot, viewSlots, bookWith, inRange, view}
-use Rattle.nvram.specs.Figures.{noFigures}
-use Rattle.nvram.specs.Checked.{checked, unsound, slotFigures, figuresAt, activeFigures}
-use Rattle.nvram.proofs.CheckedLaws.{checked-same}
+use Rattle.nvram.specs.SlotFigures.{slotFigures, figuresAt, activeFigures}
 
 -- what the walk ends with when it comes with u to these slots, the first of them number i
 unfoldable pub figuresFrom : Bool → ℕ → ℕ → Figures → List Slot → Figures

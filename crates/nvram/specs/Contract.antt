@@ -5,16 +5,14 @@ use mathlib.Core.Path.{_≡_}
 use mathlib.Core.List.{List, []}
 use mathlib.Core.Option.{Option, none, some}
 use lib.ListN.{replicate}
+use Rattle.book.specs.Book.{Book}
+use Rattle.book.specs.Opening.{Opened, opened, refused}
+use Rattle.book.specs.Call.{Call, Answer, refusal, step}
+use Rattle.book.specs.Tally.{tallied}
 use Rattle.nvram.specs.declared.state.Kind.the-variants.{Empty}
 use Rattle.nvram.specs.declared.state.Nvram.{Nvram}
-use Rattle.nvram.specs.declared.lookup.Lookup.{Lookup}
-use Rattle.nvram.specs.declared.lookup.Lookup.the-variants.{At, Nothing, Refused}
 use Rattle.nvram.specs.Part.{entry}
-use Rattle.nvram.specs.Book.{Book}
-use Rattle.nvram.specs.Opening.{Opened, opened, refused}
 use Rattle.nvram.specs.Layout.{layState, layWork, view}
-use Rattle.nvram.specs.Call.{Call, Answer, looked, refusal, step}
-use Rattle.nvram.specs.Tally.{tallied}
 
 pub record After : Type 0 where
   pub answer : Answer
@@ -41,12 +39,6 @@ pub record Does (c : Call) (s : Nvram) (w : List ℕ) (a : Answer) (x : List ℕ
   pub out : x ≡ call c s w .out
   pub state : s′ ≡ call c s w .state
   pub work : w′ ≡ call c s w .work
-
--- a lookup's answer by cases: found, none, or refused by a number
-abbrev pub told : Lookup → Answer
-told (At f) = looked 0 (some f)
-told Nothing = looked 0 none
-told (Refused k) = looked k none
 
 -- an opening: number, state and work area
 pub record Begun : Type 0 where

@@ -6,13 +6,13 @@ use mathlib.Core.Option.{Option, none, some}
 use lib.ListN.{length, set, take, drop, replicate}
 use lib.Dec.{leb, ltb, eqb}
 use Rattle.bank.specs.Bank.{Slot, partOf}
+use Rattle.book.specs.Book.{partSize, Book}
+use Rattle.book.specs.Tally.{Tally}
 use Rattle.nvram.specs.declared.state.Kind.{Kind}
 use Rattle.nvram.specs.declared.state.Kind.the-variants.{Empty, Invalid, Valid}
 use Rattle.nvram.specs.declared.state.Entry.{Entry}
 use Rattle.nvram.specs.declared.state.Nvram.{Nvram}
-use Rattle.nvram.specs.Part.{partSize, entry, entryOf, viewSlot}
-use Rattle.nvram.specs.Book.{Book}
-use Rattle.nvram.specs.Tally.{Tally}
+use Rattle.nvram.specs.Part.{entry, entryOf, viewSlot}
 
 -- laid out
 

@@ -1,13 +1,5 @@
 pub mod Part
-pub mod Edit
-pub mod Records
-pub mod Book
-pub mod Figures
-pub mod Checked
-pub mod Opening
-pub mod Commit
-pub mod Call
-pub mod Tally
 pub mod Layout
+pub mod SlotFigures
 pub mod Ready
 pub mod Contract

@@ -3,13 +3,14 @@ use Prim.Native.Nat.{ℕ, _+_, _*_}
 use mathlib.Core.List.{List}
 use mathlib.Core.Bool.{cond}
 use lib.ListN.{getD}
+use Rattle.records.specs.Checked.{isSome}
 use Rattle.nvram.specs.declared.ready.Ready.{Ready}
 use Rattle.nvram.specs.declared.ready.Ready.the-variants.{Refused, Records}
 use Rattle.nvram.specs.declared.state.Kind.{Kind}
 use Rattle.nvram.specs.declared.state.Kind.the-variants.{Empty, Invalid, Valid}
 use Rattle.nvram.specs.declared.state.Entry.{Entry}
 use Rattle.nvram.specs.declared.state.Nvram.{Nvram}
-use Rattle.nvram.specs.Part.{entry, given}
+use Rattle.nvram.specs.Part.{entry}
 use Rattle.nvram.specs.Layout.{view}
 
 abbrev pub activeEntry : Nvram → Entry
@@ -21,4 +22,4 @@ byKind Invalid s = Refused 7
 byKind Valid s = Records (s .active * 131072 + 24) (s .active * 131072 + activeEntry s .total)
 
 unfoldable pub readyOf : Nvram → List ℕ → Ready
-readyOf s w = cond (given (view s w)) (byKind (activeEntry s .kind) s) (Refused 6)
+readyOf s w = cond (isSome (view s w)) (byKind (activeEntry s .kind) s) (Refused 6)

@@ -7,13 +7,13 @@ ghost use mathlib.Core.Path.{_≡_};
 ghost use Rattle.nvram.specs.Ready.{readyOf};
 
 // Refused by a number, or where the active bank's records begin and end in the work area.
-pub(crate) enum Ready {
+pub enum Ready {
     Refused(u32),
     Records(usize, usize),
 }
 
 impl Nvram {
-    pub(crate) fn ready(self, work: &[u8]) -> Ready
+    pub fn ready(self, work: &[u8]) -> Ready
         ensures { λ r. ⌜ r ≡ readyOf self (now (work .entry)) ⌝ }
     {
         if !is_sound(self, work) {

@@ -1,22 +1,23 @@
 // Refusal 6: whether a state and a work area are those of some book. The check counts the active bank's live records as it passes them, for
 // a commit, which would else walk them again.
-use super::figures::Figures;
-use super::records::Checked;
-use super::records::check_records;
 use super::state::Entry;
 use super::state::Kind;
 use super::state::Nvram;
 use bank::Head;
 use bank::StoreHeader;
 use bank::Variable;
+use records::Checked;
+use records::Figures;
+use records::check_records;
 ghost use mathlib.Core.Path.{_≡_};
 ghost use mathlib.Core.Bool.{true};
 ghost use Prim.Native.Nat.{_*_, _≤_};
 ghost use lib.ListN.{length, drop};
 ghost use Rattle.crc32.specs.Table.{IsTables};
-ghost use Rattle.nvram.specs.Part.{given, isBlank, viewHead, viewSlot};
-ghost use Rattle.nvram.specs.Figures.{noFigures};
-ghost use Rattle.nvram.specs.Checked.{checked, slotFigures, figuresAt, activeFigures};
+ghost use Rattle.records.specs.Checked.{isSome, checked};
+ghost use Rattle.records.specs.Figures.{noFigures};
+ghost use Rattle.nvram.specs.Part.{isBlank, viewHead, viewSlot};
+ghost use Rattle.nvram.specs.SlotFigures.{slotFigures, figuresAt, activeFigures};
 ghost use Rattle.nvram.specs.Layout.{isEmpty, isFree, allFree, viewSlots, view};
 
 fn is_empty(kind: Kind) -> bool
@@ -192,7 +193,7 @@ pub fn check(state: Nvram, work: &[u8]) -> Checked
 
 // Whether state and work area are sound.
 pub fn is_sound(state: Nvram, work: &[u8]) -> bool
-    ensures { λ r. ⌜ r ≡ given (view state (now (work .entry))) ⌝ }
+    ensures { λ r. ⌜ r ≡ isSome (view state (now (work .entry))) ⌝ }
 {
     check_all(state, work, false).sound
 }

@@ -1,6 +1,8 @@
 // The state of a store: 01, 'Opening'.
 ghost use mathlib.Core.Path.{_≡_};
+ghost use lib.ListN.{replicate};
 ghost use Prim.Native.Nat.{_<_};
+ghost use Rattle.nvram.specs.Part.{entry};
 ghost use Rattle.nvram.specs.Layout.{setEntry};
 
 // What a slot is.
@@ -36,7 +38,7 @@ impl Nvram {
     pub const PART: usize = 131072;
 
     // The state with entry i replaced.
-    pub(crate) fn with_entry(self, i: usize, entry: Entry) -> Nvram
+    pub fn with_entry(self, i: usize, entry: Entry) -> Nvram
         requires { ⌜ i < 16 ⌝ }
         ensures { λ r. ⌜ r ≡ setEntry self i entry ⌝ }
     {
@@ -44,4 +46,16 @@ impl Nvram {
         next.banks[i] = entry;
         next
     }
+}
+
+// A table of Empty slots.
+pub fn no_banks() -> [Entry; 16]
+    ensures { λ r. ⌜ r ≡ replicate 16 (entry Kind.Empty 0 0) ⌝ }
+{
+    let none = Entry {
+        kind: Kind::Empty,
+        total: 0,
+        usable: 0,
+    };
+    [none; 16]
 }

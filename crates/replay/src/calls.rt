@@ -4,12 +4,15 @@ use super::fields::field;
 use super::fields::hex;
 use super::fields::put_bytes;
 use bank::VarType;
-use nvram::Edited;
+use commit::Erase;
 use nvram::Entry;
 use nvram::Kind;
-use nvram::Lookup;
 use nvram::Nvram;
-use writer::Erase;
+use variables::Edited;
+use variables::Lookup;
+use variables::get_variable;
+use variables::insert_variable;
+use variables::remove_variable;
 ghost use mathlib.Core.Path.{_≡_};
 ghost use Prim.Native.Nat.{_≤_, _<_};
 ghost use lib.ListN.{length};
@@ -60,13 +63,13 @@ pub(crate) fn insert(state: Nvram, work: &mut [u8], line: &[u8]) -> Edited {
     let k = put_bytes(&mut key, 0, field(line, 2));
     let mut value = value_room();
     let n = put_value(line, &mut value);
-    state.insert_variable(work, &key[0..k], &value[0..n], typ(line))
+    insert_variable(state, work, &key[0..k], &value[0..n], typ(line))
 }
 
 pub(crate) fn remove(state: Nvram, work: &mut [u8], line: &[u8]) -> Edited {
     let mut key = key_room();
     let k = put_bytes(&mut key, 0, field(line, 2));
-    state.remove_variable(work, &key[0..k], typ(line))
+    remove_variable(state, work, &key[0..k], typ(line))
 }
 
 fn told(line: &[u8], number: u64, found: u64, place: u64, long: u64) -> bool {
@@ -79,7 +82,7 @@ fn told(line: &[u8], number: u64, found: u64, place: u64, long: u64) -> bool {
 pub(crate) fn lookup_right(state: Nvram, work: &[u8], line: &[u8]) -> bool {
     let mut key = key_room();
     let k = put_bytes(&mut key, 0, field(line, 2));
-    match state.get_variable(work, &key[0..k], typ(line)) {
+    match get_variable(state, work, &key[0..k], typ(line)) {
         Lookup::At(found) => told(line, 0, 1, found.place as u64, found.long as u64),
         Lookup::Nothing => told(line, 0, 0, 0, 0),
         Lookup::Refused(number) => told(line, number as u64, 0, 0, 0),
@@ -89,7 +92,7 @@ pub(crate) fn lookup_right(state: Nvram, work: &[u8], line: &[u8]) -> bool {
 pub(crate) fn value_right(state: Nvram, work: &[u8], line: &[u8]) -> bool {
     let mut key = key_room();
     let k = put_bytes(&mut key, 0, field(line, 2));
-    let value = state.value(work, &key[0..k], typ(line));
+    let value = variables::value(state, work, &key[0..k], typ(line));
     (decimal(line, 3) == value.len() as u64) & (hex(line, 4) == crc32::crc32(value) as u64)
 }
 
@@ -118,7 +121,7 @@ fn erase_right(line: &[u8], erase: Erase) -> bool {
 
 pub(crate) fn commit(state: Nvram, work: &mut [u8], line: &[u8]) -> Committed {
     let mut output = output_room();
-    let done = writer::apply(state, work, &mut output);
+    let done = commit::apply(state, work, &mut output);
     let after = done.state;
     let erase = done.erase;
     let right = (decimal(line, 1) == done.number as u64)
@@ -133,7 +136,7 @@ pub(crate) fn commit(state: Nvram, work: &mut [u8], line: &[u8]) -> Committed {
 
 pub(crate) fn whole_right(state: Nvram, work: &[u8], line: &[u8]) -> bool {
     let mut output = output_room();
-    let done = writer::serialize(state, work, &mut output);
+    let done = whole_image::serialize(state, work, &mut output);
     (decimal(line, 1) == done.number as u64) & output_right(line, 2, &output, done.length)
 }
 

@@ -12,7 +12,7 @@ use run::FEED;
 use run::behind;
 use run::letter;
 use run::run;
-use tally::Tally;
+use score::Score;
 ghost use mathlib.Core.Path.{_≡_};
 ghost use lib.ListN.{length};
 
@@ -39,8 +39,8 @@ fn report(line: &[u8], right: bool) {
 }
 
 // Every run of the text; what stands before the first is for the reader.
-fn replay(text: &[u8], image: &mut [u8], work: &mut [u8]) -> Tally {
-    let mut tally = Tally { right: 0, wrong: 0 };
+fn replay(text: &[u8], image: &mut [u8], work: &mut [u8]) -> Score {
+    let mut score = Score { right: 0, wrong: 0 };
     let mut at: usize = 0;
     while at < text.len() {
         let e = end(text, at, FEED);
@@ -49,11 +49,11 @@ fn replay(text: &[u8], image: &mut [u8], work: &mut [u8]) -> Tally {
         if letter(line) == b'R' {
             let ran = run(text, at, image, work);
             report(line, ran.right);
-            tally = tally.add(ran.right);
+            score = score.add(ran.right);
             at = ran.to;
         }
     }
-    tally
+    score
 }
 
 fn main() {
@@ -61,6 +61,6 @@ fn main() {
     let mut image = image();
     let mut work = work();
     let n = io::read_full(STDIN_FILENO, &mut text);
-    let tally = replay(&text[..n], &mut image, &mut work);
-    tally.print();
+    let score = replay(&text[..n], &mut image, &mut work);
+    score.print();
 }

@@ -12,9 +12,9 @@ use super::fields::end;
 use super::fields::field;
 use super::fields::hex;
 use super::fields::put_bytes;
-use nvram::Edited;
 use nvram::Nvram;
 use std::num::wrapping_add_usize;
+use variables::Edited;
 ghost use Prim.Native.Nat.{ℕ, _≤_, _<_};
 ghost use lib.ListN.{length};
 
@@ -116,7 +116,7 @@ impl Walk {
         if image.len() < e {
             return self.with_right(false);
         }
-        let opened = Nvram::parse(&image[0..e], work);
+        let opened = opening::parse(&image[0..e], work);
         let state = opened.state;
         Walk {
             right: self.right & (decimal(line, 1) == opened.number as u64),

@@ -13,17 +13,17 @@ use Rattle.bank.specs.declared.variable.VarType.{VarType}
 use Rattle.bank.specs.Number.{le32}
 use Rattle.bank.specs.Header.{headerBytes}
 use Rattle.bank.specs.Record.{Record, deletedState, varHeaderBytes, recordBytes, recordsBytes}
-use Rattle.bank.specs.Bank.{Bank, padded, bankBytes}
-use Rattle.bank.specs.Figures.{total}
+use Rattle.bank.specs.Bank.{Bank, padded, bankBytes, output}
+use Rattle.bank.specs.Totals.{total}
 use Rattle.bank.specs.WellFormed.{FineHeader, FineRecords}
 use Rattle.bank.proofs.WalkLaws.{by-test}
 use Rattle.bank.proofs.PaddedLaws.{blanks, length-blanks}
-use Rattle.nvram.specs.Book.{withRecords}
-use Rattle.nvram.specs.Commit.{output}
-use Rattle.nvram.specs.Edit.{Edit, insert, remove, matches, deleted, removed, attributesOf, fresh, editedBy}
+use Rattle.bank.proofs.OutputLaws.{length-output, bytes-output}
+use Rattle.records.specs.Match.{matches, deleted, removed, fresh}
+use Rattle.book.specs.Book.{withRecords}
+use Rattle.book.specs.Edit.{Edit, insert, remove, attributesOf, editedBy}
 use Rattle.run.specs.Flash.{ands}
 use Rattle.run.proofs.FlashLaws.{ands-ff, ands-same}
-use Rattle.run.proofs.OutputLaws.{length-output, bytes-output}
 
 -- a state that stays, or goes from 0x7F to 0x7C
 pub data Older (a b : ℕ) : Type 0 where

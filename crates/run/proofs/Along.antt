@@ -7,15 +7,17 @@ use mathlib.Core.List.{List, [], _∷_, _++_}
 use Rattle.crc32.specs.Crc32.{Bytes}
 use Rattle.bank.specs.Bank.{Bank, valid}
 use Rattle.bank.proofs.PaddedLaws.{blanks}
+use Rattle.bank.proofs.ReadLaws.{empty-ff}
+use Rattle.book.specs.Edit.{editedBy}
+use Rattle.book.specs.Book.{Book, FineBook, activeSlot, withBank, slotSize}
+use Rattle.book.specs.Opening.{bankIn, readSlots, banksOf}
+use Rattle.book.specs.Call.{Call, Answer, committed, erase, refusal, Outcome, step}
+use Rattle.book.specs.Tally.{Tally, counted, tallied}
+use Rattle.book.proofs.Did.{refuses, reads, edits, writes, moves, overflows, Did, did}
+use Rattle.book.proofs.StepLaws.{next-inside, step-fine, Follows, settled}
 use Rattle.nvram.specs.declared.state.Nvram.{Nvram}
-use Rattle.nvram.specs.Edit.{editedBy}
-use Rattle.nvram.specs.Book.{Book, FineBook, activeSlot, withBank, slotSize}
 use Rattle.nvram.specs.Layout.{view}
-use Rattle.nvram.specs.Opening.{bankIn, readSlots, banksOf}
-use Rattle.nvram.specs.Call.{Call, Answer, committed, erase, refusal, Outcome, step}
-use Rattle.nvram.specs.Tally.{Tally, counted, tallied}
-use Rattle.nvram.proofs.Did.{refuses, reads, edits, writes, moves, overflows, Did, did}
-use Rattle.nvram.proofs.StepLaws.{next-inside, step-fine, Follows, settled, keeps}
+use Rattle.nvram.proofs.KeepLaws.{keeps}
 use Rattle.run.specs.Flash.{carriedOut}
 use Rattle.run.specs.Run.{Opens, Event, Run, openedBook, Page, pages, Each}
 use Rattle.run.specs.Wear.{activeSize, requested, requests}
@@ -23,10 +25,9 @@ use Rattle.run.specs.Demand.{flashAfter}
 use Rattle.run.proofs.Idle.{Idle, idle-refusal, idle-read, idle-quiet, idle-flash, no-commit, tallied-erase}
 use Rattle.run.proofs.EachLaws.{each-first, each-rest}
 use Rattle.run.proofs.FlashLaws.{bank-long}
-use Rattle.run.proofs.ReadLaws.{empty-ff}
 use Rattle.run.proofs.ChoiceLaws.{slot-at, active-most}
 use Rattle.run.proofs.Aged.{aged-edited}
-use Rattle.run.proofs.Invariant.{Base, Fixed, Current, enough, stored, move-current, write-base, write-current, edit-base, edit-fixed}
+use Rattle.run.proofs.Invariant.{Base, Fixed, Current, enough, active-stored, move-current, write-base, write-current, edit-base, edit-fixed}
 use Rattle.run.proofs.Start.{Starts, starts}
 
 -- one call
@@ -42,7 +43,7 @@ module _ (b₀ : Book) (f : List ℕ) (b : Book) (m : ℕ) (s : State b₀ f b m
   -- a bank of the same size stored
   same-size : (k k′ : Bank) (i : ℕ) → activeSlot b ≡ valid k → i < b .n → k′ .header .size ≡ k .header .size → activeSize (withBank b i k′) ≡ activeSize b₀
   same-size k k′ i e l q =
-      ap slotSize (stored b (s .base .fine) i l k′) ∙ q ∙ sym (ap slotSize e) ∙ s .size
+      ap slotSize (active-stored b (s .base .fine) i l k′) ∙ q ∙ sym (ap slotSize e) ∙ s .size
 
   still : (a : Answer) (x : List ℕ) → Idle a → State b₀ (carriedOut a x f) b (m + requested (erase a))
   still a x i =
@@ -193,13 +194,13 @@ unfoldable pub endOf : Book → List Page → Book
 endOf b [] = b
 endOf b (p ∷ ps) = endOf (p .after) ps
 
-pub split : (b₀ : Book) (f : List ℕ) (b : Book) (m : ℕ) (ps qs : List Page) → Along b₀ f b m (ps ++ qs)
+pub along-split : (b₀ : Book) (f : List ℕ) (b : Book) (m : ℕ) (ps qs : List Page) → Along b₀ f b m (ps ++ qs)
     → Along b₀ (flashAfter f ps) (endOf b ps) (m + requests ps) qs
 unfolding flashAfter endOf requests
-split b₀ f b m [] qs a = let e : m ≡ m + 0 = omega arith in subst (λ (k : ℕ). Along b₀ f b k qs) e a
-split b₀ f b m (p ∷ ps) qs a =
+along-split b₀ f b m [] qs a = let e : m ≡ m + 0 = omega arith in subst (λ (k : ℕ). Along b₀ f b k qs) e a
+along-split b₀ f b m (p ∷ ps) qs a =
     let e : m + asks p + requests ps ≡ m + (asks p + requests ps) = omega arith in
-    subst (λ (k : ℕ). Along b₀ (flashAfter (flashOf f p) ps) (endOf (p .after) ps) k qs) e (split b₀ (flashOf f p) (p .after) (m + asks p) ps qs (a .2))
+    subst (λ (k : ℕ). Along b₀ (flashAfter (flashOf f p) ps) (endOf (p .after) ps) k qs) e (along-split b₀ (flashOf f p) (p .after) (m + asks p) ps qs (a .2))
 
 pub flash-end : (f : List ℕ) (ps : List Page) (p : Page) → flashAfter f (ps ++ (p ∷ [])) ≡ flashOf (flashAfter f ps) p
 unfolding flashAfter

@@ -13,7 +13,7 @@ use borrow.Author.Tests.{ltb-true, ltb-false, lt-ltb, le-ltb}
 use Rattle.bank.specs.Bank.{Bank, Slot, empty, invalid, valid, bankSize}
 use Rattle.bank.specs.Read.{readBank}
 use Rattle.bank.proofs.WalkLaws.{by-test}
-use Rattle.nvram.specs.Opening.{bankIn, readSlots, activeFrom, anyValid}
+use Rattle.book.specs.Opening.{bankIn, readSlots, activeFrom, anyValid}
 
 pub slot-at : (n : ℕ) (flash : List ℕ) (i : ℕ) → i < n → getD (readSlots n flash) i invalid ≡ readBank (bankIn flash i)
 unfolding readSlots

@@ -4,14 +4,14 @@ use mathlib.Core.Path.{_≡_, sym, ap, _∙_, subst}
 use mathlib.Core.Logic.{_≢_}
 use mathlib.Core.List.{List, _∷_, _++_}
 use native.Mathlib.Omega.{arith}
-use Rattle.nvram.specs.Book.{Book}
-use Rattle.nvram.specs.Call.{number}
-use Rattle.nvram.proofs.StepLaws.{follows}
-use Rattle.nvram.proofs.RefusalLaws.{not-6}
+use Rattle.book.specs.Book.{Book}
+use Rattle.book.specs.Call.{number}
+use Rattle.book.proofs.StepLaws.{follows}
+use Rattle.book.proofs.RefusalLaws.{not-6}
 use Rattle.run.specs.Run.{openedBook, Page, pages}
 use Rattle.run.specs.Wear.{activeSize, mostLive, requests}
 use Rattle.run.specs.Demand.{Answers, flashAfter, Claim}
-use Rattle.run.proofs.Along.{At, Along, Tallied, flashOf, endOf, current-at, opened-along, split, flash-end, requests-end, tally-at}
+use Rattle.run.proofs.Along.{At, Along, Tallied, flashOf, endOf, current-at, opened-along, along-split, flash-end, requests-end, tally-at}
 use Rattle.run.proofs.Wear.{most-within, wear-within}
 use Rattle.run.proofs.Reopen.{reopens}
 
@@ -25,7 +25,7 @@ demand-3 image work s w es o r n =
     let b = openedBook image in
     let x = opened-along (λ f p. number (p .event .answer) ≢ 12) (λ f p. follows (p .event .call) (p .event .answer)) image work s w es o r n in
     let known : (earlier rest : List Page) → pages b es ≡ earlier ++ rest → Along b (flashAfter image earlier) (endOf b earlier) (0 + requests earlier) rest =
-    λ earlier rest h. split b image b 0 earlier rest (subst (Along b image b 0) h (x .0)) in
+    λ earlier rest h. along-split b image b 0 earlier rest (subst (Along b image b 0) h (x .0)) in
     record {
       answers = λ earlier p later h. page-answers (endOf b earlier) p (known earlier (p ∷ later) h .1);
       one-size = λ earlier p later h. let a = known earlier (p ∷ later) h in ap activeSize (a .1 .before) ∙ a .0 .size;

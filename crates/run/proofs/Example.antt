@@ -11,35 +11,36 @@ use lib.ListN.{length, replicate, length-append, length-replicate}
 use lib.Seq.{take-all}
 use borrow.Author.Tests.{le-ltb, lt-leb}
 use Rattle.crc32.specs.Crc32.{Bytes}
+use Rattle.crc32.proofs.ByteLaws.{bytes-append, bytes-ff}
 use Rattle.buffers.specs.Bytes.{eqBytes}
 use Rattle.bank.specs.declared.header.StoreHeader.{StoreHeader}
 use Rattle.bank.specs.declared.variable.VarType.the-variants.{Common}
 use Rattle.bank.specs.Number.{le32}
 use Rattle.bank.specs.Header.{headerBytes}
 use Rattle.bank.specs.Record.{sizeOf, sizes, recordsBytes, live, deletedState, typeOf}
-use Rattle.bank.specs.Bank.{Bank, Slot, valid, bankSize, padded, bankBytes}
-use Rattle.bank.specs.Read.{bankOf, readBank}
-use Rattle.bank.specs.Figures.{select, total, liveTotal, liveOf}
+use Rattle.bank.specs.Bank.{Bank, Slot, valid, bankSize, padded, bankBytes, bankOf, output}
+use Rattle.bank.specs.Read.{readBank}
+use Rattle.bank.specs.Totals.{select, total, liveTotal, liveOf}
 use Rattle.bank.specs.WellFormed.{FineHeader}
 use Rattle.bank.proofs.BankBack.{bank-back}
 use Rattle.bank.proofs.PartitionLaws.{bank-size}
 use Rattle.bank.proofs.PaddedLaws.{length-blanks}
+use Rattle.bank.proofs.OutputLaws.{length-output, bytes-output}
+use Rattle.records.specs.Match.{matches, deleted}
+use Rattle.records.specs.Figures.{figuresBy, plus, figuresOf}
+use Rattle.book.specs.Edit.{plain, insert, editedBy, grows, refusedEdit}
+use Rattle.book.specs.Book.{partSize, Book, FineBook}
+use Rattle.book.specs.Commit.{judge, due, judgeBank, request}
+use Rattle.book.specs.Opening.{readSlots, activeFrom, anyValid, banksOf, bookOf, Opened, opened, opening}
+use Rattle.book.specs.Call.{Call, ByteCall, edit, commit, Answer, committed, number, erase, bySlot, editAs, editBank, moveIn, commitAs, commitBank, commitTo, step}
+use Rattle.book.proofs.StepLaws.{step-fine, follows, settled}
 use Rattle.nvram.specs.declared.state.Nvram.{Nvram}
-use Rattle.nvram.specs.Edit.{plain, insert, matches, deleted, editedBy, grows, refusedEdit}
-use Rattle.nvram.specs.Part.{partSize}
-use Rattle.nvram.specs.Book.{Book, FineBook}
-use Rattle.nvram.specs.Figures.{figuresBy, plus, figuresOf}
-use Rattle.nvram.specs.Commit.{judge, due, judgeBank, request, output}
-use Rattle.nvram.specs.Opening.{readSlots, activeFrom, anyValid, banksOf, bookOf, Opened, opened, opening}
 use Rattle.nvram.specs.Layout.{view}
-use Rattle.nvram.specs.Call.{Call, ByteCall, edit, commit, Answer, committed, number, erase, bySlot, editAs, editBank, moveIn, commitAs, commitBank, commitTo, step}
 use Rattle.nvram.specs.Contract.{begun, call}
-use Rattle.nvram.proofs.StepLaws.{step-fine, follows, settled, keeps}
+use Rattle.nvram.proofs.KeepLaws.{keeps}
 use Rattle.run.specs.Run.{Opens, Event, Run, openedBook, Page, pages, Never}
 use Rattle.run.specs.Wear.{activeSize, mostLive, insertedBytes, requested, requests}
 use Rattle.run.specs.Demand.{Demand3}
-use Rattle.run.proofs.FlashLaws.{bytes-append, bytes-ff}
-use Rattle.run.proofs.OutputLaws.{length-output, bytes-output}
 use Rattle.run.proofs.EachLaws.{each-none, each-more}
 use Rattle.run.proofs.Start.{starts}
 use Rattle.run.proofs.Along.{Along, opened-along}

@@ -1,34 +1,26 @@
--- The flash, bank by bank: what an erase and a write leave in a bank, and in the others.
-use Prim.Native.Nat.{ℕ, zero, suc, _+_, _*_, _≤_, _<_}
+-- The reader of a bank: what is written and then padded is read back; an Empty bank is all 0xFF; a generation is the number at bytes 8 to 11.
+use Prim.Native.Nat.{ℕ, _+_, _-_, _≤_, _<_, zero, suc, _*_}
 use native.Mathlib.Omega.{arith}
+use mathlib.Core.Path.{_≡_, refl, ap, _∙_, sym, ap₂, subst}
+use mathlib.Core.List.{List, _++_, [], _∷_, append-nil}
+use lib.ListN.{length, List·getD-append, getD, take, drop, take-append-drop, length-drop, drop-of-length-le}
 use native.Mathlib.Nat.{mul-le-mul-right, suc-mul, mod-eq-of-lt, lt-of-le-of-lt}
 use native.Mathlib.Decide.{decLe}
-use mathlib.Core.Path.{_≡_, refl, sym, ap, ap₂, _∙_, subst}
 use mathlib.Core.Logic.{_≢_}
-use mathlib.Core.List.{List, [], _∷_, _++_, append-nil}
 use lib.Bits.{bitAnd, and-self, and-mask, and-comm, and-le-r}
-use lib.ListN.{length, getD, take, drop, take-append-drop, length-drop, drop-of-length-le}
 use lib.Seq.{take-append-le, drop-append-le, take-at, drop-at, length-take-le, drop-drop}
 use Rattle.crc32.specs.Crc32.{Bytes}
-use Rattle.crc32.proofs.ByTable.{bytes-take, bytes-drop}
-use Rattle.bank.specs.Bank.{bankSize}
-use Rattle.bank.specs.Write.{over}
+use Rattle.crc32.proofs.ByteLaws.{bytes-append, bytes-ff, bytes-take, bytes-drop}
+use Rattle.buffers.specs.Bytes.{over}
+use Rattle.buffers.proofs.OverLaws.{length-over, drop-over, over-inside}
+use Rattle.bank.specs.Number.{u32At}
+use Rattle.bank.specs.Bank.{Bank, valid, bankSize, output}
+use Rattle.bank.specs.Read.{readBank}
 use Rattle.bank.proofs.PaddedLaws.{blanks, length-blanks}
-use Rattle.nvram.specs.Opening.{bankIn}
-use Rattle.nvram.proofs.PutLaws.{length-over, drop-over, over-inside}
-use Rattle.run.specs.Flash.{erased, ands, written}
-
--- bytes
-
-pub bytes-append : (x y : List ℕ) → Bytes x → Bytes y → Bytes (x ++ y)
-bytes-append [] y h k i = k i
-bytes-append (a ∷ x) y h k zero = h 0
-bytes-append (a ∷ x) y h k (suc i) = bytes-append x y (λ j. h (suc j)) k i
-
-pub bytes-ff : (n : ℕ) → Bytes (blanks n)
-bytes-ff zero i = omega arith
-bytes-ff (suc n) zero = omega arith
-bytes-ff (suc n) (suc i) = bytes-ff n i
+use Rattle.bank.proofs.ReadLaws.{generation-at}
+use Rattle.bank.proofs.OutputLaws.{output-generation}
+use Rattle.book.specs.Opening.{bankIn}
+use Rattle.run.specs.Flash.{ands, erased, written}
 
 bytes-over : (at : ℕ) (x w : List ℕ) → Bytes x → Bytes w → Bytes (over at x w)
 unfolding over
@@ -196,3 +188,19 @@ module _ (flash : List ℕ) (n i : ℕ) (inside : i < n) (long : n * bankSize �
       ap (λ (y : List ℕ). blanks bankSize ++ y) (drop-of-length-le m {i = 0 + length (blanks bankSize)} (omega (arith, l, bank-long))) ∙ append-nil (blanks bankSize) in
       subst (λ (o : ℕ). Replaced flash (over o (blanks bankSize) flash) i (blanks bankSize)) e
       (subst (Replaced flash (over (i * bankSize + 0) (blanks bankSize) flash) i) q (over-bank 0 (blanks bankSize) (omega (arith, l)) (bytes-ff bankSize) c))
+
+-- onto any bytes, what can be read has no greater generation
+
+pub ands-number : (x y z : List ℕ) (i : ℕ) → length x ≡ length y → i + 4 ≤ length y → u32At (ands x y ++ z) i ≤ u32At y i
+unfolding u32At
+ands-number x y z i e l =
+    let m : length (ands x y) ≡ length y = length-ands x y e in
+    rw
+    (List·getD-append (ands x y) z 0 i (omega arith), List·getD-append (ands x y) z 0 (i + 1) (omega arith), List·getD-append (ands x y) z 0 (i + 2) (omega arith), List·getD-append (ands x y) z 0 (i + 3) (omega arith))
+    (omega (arith, ands-below x y i, ands-below x y (i + 1), ands-below x y (i + 2), ands-below x y (i + 3)))
+
+pub generation-below : (k k′ : Bank) (x z : List ℕ) → k .header .generation < 4294967296 → length x ≡ length (output k) → 24 ≤ length (output k)
+    → readBank (ands x (output k) ++ z) ≡ valid k′
+    → k′ .header .generation ≤ k .header .generation
+generation-below k k′ x z h e l r =
+    omega (arith, generation-at (ands x (output k) ++ z) k′ r, ands-number x (output k) z 8 e (omega arith), output-generation k h)

@@ -5,11 +5,11 @@ use mathlib.Core.Logic.{_≢_}
 use mathlib.Core.Option.{Option, none, some}
 use mathlib.Core.List.{List}
 use native.Mathlib.Omega.{arith}
-use Rattle.nvram.specs.Call.{Call, edit, lookup, fetch, commit, wholeImage, Answer, edited, looked, handed, committed, joined, erase, refusal, Outcome}
-use Rattle.nvram.specs.Book.{Book}
-use Rattle.nvram.specs.Tally.{Tally, counted, tallied}
+use Rattle.book.specs.Call.{Call, edit, lookup, fetch, commit, wholeImage, Answer, edited, looked, handed, committed, joined, erase, refusal, Outcome}
+use Rattle.book.specs.Book.{Book}
+use Rattle.book.specs.Tally.{Tally, counted, tallied}
+use Rattle.book.proofs.Did.{Reads, refuses, reads, edits, writes, moves, overflows, Did}
 use Rattle.nvram.proofs.CallLaws.{refusal-tally}
-use Rattle.nvram.proofs.Did.{Reads, refuses, reads, edits, writes, moves, overflows, Did}
 use Rattle.run.specs.Flash.{carriedOut}
 
 abbrev pub Idle : Answer → Type 0

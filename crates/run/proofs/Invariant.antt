@@ -10,23 +10,22 @@ use lib.Seq.{getD-set-same, getD-set-other, set-getD, length-take-le}
 use Rattle.crc32.specs.Crc32.{Bytes}
 use Rattle.buffers.proofs.Laws.{take-replicate, drop-replicate}
 use Rattle.bank.specs.Record.{Record}
-use Rattle.bank.specs.Bank.{Bank, Slot, empty, invalid, valid, bankSize, padded, bankBytes}
-use Rattle.bank.specs.Read.{readBank, bankOf}
-use Rattle.bank.specs.Figures.{total, liveTotal}
+use Rattle.bank.specs.Bank.{Bank, Slot, empty, invalid, valid, bankSize, padded, bankBytes, bankOf, output}
+use Rattle.bank.specs.Read.{readBank}
+use Rattle.bank.specs.Totals.{total, liveTotal}
 use Rattle.bank.specs.WellFormed.{FineRecords, FineBank}
 use Rattle.bank.proofs.LengthLaws.{length-bank}
 use Rattle.bank.proofs.PartitionLaws.{bank-size}
 use Rattle.bank.proofs.PaddedLaws.{blanks, padded-more, take-padded, drop-padded}
-use Rattle.nvram.specs.Part.{FineSlot}
-use Rattle.nvram.specs.Book.{Book, FineBook, activeSlot, withBank, withActive, withRecords}
-use Rattle.nvram.specs.Commit.{moved, nextBank, nextSlot, request, movedBook, output}
-use Rattle.nvram.specs.Opening.{bankIn, banksOf}
-use Rattle.nvram.proofs.LayoutLaws.{fine-at}
-use Rattle.nvram.proofs.StepLaws.{moved-fine, next-inside}
+use Rattle.bank.proofs.BankBack.{padded-back}
+use Rattle.bank.proofs.OutputLaws.{length-output, bytes-output}
+use Rattle.book.specs.Book.{FineSlot, Book, FineBook, activeSlot, withBank, withActive, withRecords}
+use Rattle.book.specs.Commit.{moved, nextBank, nextSlot, request, movedBook}
+use Rattle.book.specs.Opening.{bankIn, banksOf}
+use Rattle.book.proofs.BookLaws.{fine-at}
+use Rattle.book.proofs.StepLaws.{moved-fine, next-inside}
 use Rattle.run.specs.Flash.{ands, written, erasedBy}
-use Rattle.run.proofs.FlashLaws.{Replaced, untouched, replaced-again, bank-long, ands-ff, erased-bank, written-start}
-use Rattle.run.proofs.ReadLaws.{padded-back}
-use Rattle.run.proofs.OutputLaws.{length-output, bytes-output, generation-below}
+use Rattle.run.proofs.FlashLaws.{Replaced, untouched, replaced-again, bank-long, ands-ff, erased-bank, written-start, generation-below}
 use Rattle.run.proofs.ChoiceLaws.{empty-not-valid}
 use Rattle.run.proofs.Aged.{Aged, aged-refl, aged-trans, ands-output}
 
@@ -76,8 +75,8 @@ enough flash n e =
     omega arith
 
 -- the slot read back after a store
-pub stored : (b : Book) → FineBook b → (i : ℕ) → i < b .n → (k : Bank) → activeSlot (withBank b i k) ≡ valid k
-stored b f i l k = getD-set-same (b .slots) i (valid k) invalid (omega (arith, f .long))
+pub active-stored : (b : Book) → FineBook b → (i : ℕ) → i < b .n → (k : Bank) → activeSlot (withBank b i k) ≡ valid k
+active-stored b f i l k = getD-set-same (b .slots) i (valid k) invalid (omega (arith, f .long))
 
 -- a Valid slot of a fine book holds a fine bank
 pub slot-fine : (b : Book) (i : ℕ) (k : Bank) → FineBook b → getD (b .slots) i invalid ≡ valid k → FineBank k
@@ -97,7 +96,7 @@ Upto flash n i g = (j : ℕ) → j < n → j ≢ i → (k : Bank) → readBank (
 module _ (f f′ : List ℕ) (b : Book) (i : ℕ) (k : Bank) (x : List ℕ) (base : Base f b) (inside : i < b .n) (fine : FineBook (withBank b i k))
     (r : Replaced f f′ i x) where
   in-slot : activeSlot (withBank b i k) ≡ valid k
-  in-slot = stored b (base .fine) i inside k
+  in-slot = active-stored b (base .fine) i inside k
 
   k-fine : FineBank k
   k-fine = slot-fine (withBank b i k) i k fine in-slot

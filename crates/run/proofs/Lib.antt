@@ -1,8 +1,6 @@
 pub mod EachLaws
 pub mod Idle
 pub mod FlashLaws
-pub mod ReadLaws
-pub mod OutputLaws
 pub mod Aged
 pub mod ChoiceLaws
 pub mod Invariant

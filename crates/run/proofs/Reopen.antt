@@ -9,25 +9,24 @@ use lib.ListN.{length, getD}
 use borrow.Author.Tests.{le-ltb, lt-leb}
 use Rattle.bank.specs.declared.variable.VarType.{VarType}
 use Rattle.bank.specs.Record.{Record}
-use Rattle.bank.specs.Bank.{Bank, invalid, valid, bankSize, padded, bankBytes}
-use Rattle.bank.specs.Read.{readBank, bankOf}
-use Rattle.bank.specs.Figures.{total}
+use Rattle.bank.specs.Bank.{Bank, invalid, valid, bankSize, padded, bankBytes, bankOf}
+use Rattle.bank.specs.Read.{readBank}
+use Rattle.bank.specs.Totals.{total}
 use Rattle.bank.proofs.PartitionLaws.{bank-size}
+use Rattle.bank.proofs.BankBack.{padded-back}
+use Rattle.records.specs.Match.{foundIn, valueIn}
+use Rattle.book.specs.Book.{partSize, Book, FineBook, activeSlot, withRecords}
+use Rattle.book.specs.Opening.{bankIn, readSlots, banksOf, Opened, opened, opening}
+use Rattle.book.specs.Call.{Call, lookup, fetch, looked, Outcome, lookupBank, fetchBank, step}
+use Rattle.book.proofs.SlotReads.{slots-long}
+use Rattle.book.proofs.OpenFine.{open-fine}
 use Rattle.nvram.specs.declared.state.Nvram.{Nvram}
-use Rattle.nvram.specs.Edit.{foundIn, valueIn}
-use Rattle.nvram.specs.Part.{partSize}
-use Rattle.nvram.specs.Book.{Book, FineBook, activeSlot, withRecords}
-use Rattle.nvram.specs.Opening.{bankIn, readSlots, banksOf, Opened, opened, opening}
 use Rattle.nvram.specs.Layout.{view}
-use Rattle.nvram.specs.Call.{Call, lookup, fetch, looked, Outcome, lookupBank, fetchBank, step}
 use Rattle.nvram.specs.Contract.{begun, onBook, call}
 use Rattle.nvram.proofs.LayoutLaws.{view-lay}
 use Rattle.nvram.proofs.CallLaws.{by-valid}
-use Rattle.nvram.proofs.LoadLaws.{slots-long}
-use Rattle.nvram.proofs.OpeningLaws.{open-fine}
 use Rattle.run.specs.Run.{openedBook, Page}
 use Rattle.run.specs.Demand.{Reopens}
-use Rattle.run.proofs.ReadLaws.{padded-back}
 use Rattle.run.proofs.ChoiceLaws.{slot-at, any-valid, valid-within, chooses}
 use Rattle.run.proofs.Invariant.{Fixed, Current, enough, slot-fine}
 

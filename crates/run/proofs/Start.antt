@@ -9,14 +9,13 @@ use lib.ListN.{length}
 use borrow.Author.Tests.{leb-false}
 use Rattle.bank.specs.Bank.{bankSize}
 use Rattle.bank.proofs.WalkLaws.{by-test}
+use Rattle.book.specs.Book.{partSize, FineBook}
+use Rattle.book.specs.Opening.{readSlots, anyValid, banksOf, Opened, opened, opening}
+use Rattle.book.proofs.OpenFine.{open-fine}
 use Rattle.nvram.specs.declared.state.Nvram.{Nvram}
-use Rattle.nvram.specs.Part.{partSize}
-use Rattle.nvram.specs.Book.{FineBook}
-use Rattle.nvram.specs.Opening.{readSlots, anyValid, banksOf, Opened, opened, opening}
 use Rattle.nvram.specs.Layout.{view}
 use Rattle.nvram.specs.Contract.{begun}
 use Rattle.nvram.proofs.LayoutLaws.{view-lay}
-use Rattle.nvram.proofs.OpeningLaws.{open-fine}
 use Rattle.run.specs.Run.{Opens, openedBook}
 
 -- it gives the opened book, and the image was not too long

@@ -7,19 +7,19 @@ use mathlib.Core.Option.{some}
 use mathlib.Core.List.{List, [], _∷_, _++_}
 use Rattle.bank.specs.Record.{Record, sizes}
 use Rattle.bank.specs.Bank.{Bank, Slot, empty, invalid, valid, bankSize}
-use Rattle.bank.specs.Figures.{total, liveTotal}
-use Rattle.nvram.specs.Edit.{editedBy}
-use Rattle.nvram.specs.Book.{Book, FineBook, activeSlot, withBank, withActive, withRecords, slotSize}
-use Rattle.nvram.specs.Commit.{moved, nextBank, nextSlot, request, movedBook}
-use Rattle.nvram.specs.Call.{Call, edited, number, erase, refusal, Outcome, step}
-use Rattle.nvram.proofs.RecordLists.{sizes-edited}
-use Rattle.nvram.proofs.Did.{Due, refuses, reads, edits, writes, moves, overflows, Did, did}
-use Rattle.nvram.proofs.StepLaws.{next-inside, Follows}
+use Rattle.bank.specs.Totals.{total, liveTotal}
+use Rattle.book.specs.Edit.{editedBy}
+use Rattle.book.specs.Book.{Book, FineBook, activeSlot, withBank, withActive, withRecords, slotSize}
+use Rattle.book.specs.Commit.{moved, nextBank, nextSlot, request, movedBook}
+use Rattle.book.specs.Call.{Call, edited, number, erase, refusal, Outcome, step}
+use Rattle.book.proofs.EditedRecords.{sizes-edited}
+use Rattle.book.proofs.Did.{Due, refuses, reads, edits, writes, moves, overflows, Did, did}
+use Rattle.book.proofs.StepLaws.{next-inside, Follows}
 use Rattle.run.specs.Run.{Page}
 use Rattle.run.specs.Wear.{activeSize, slotLive, liveAt, mostLive, added, insertedBytes}
 use Rattle.run.proofs.Idle.{idle-refusal, idle-read, no-request}
-use Rattle.run.proofs.Invariant.{stored}
-use Rattle.run.proofs.Along.{At, flashOf, asks, Along, endOf, split}
+use Rattle.run.proofs.Invariant.{active-stored}
+use Rattle.run.proofs.Along.{At, flashOf, asks, Along, endOf, along-split}
 
 -- the live records at the commits of a list stay within a bound
 abbrev pub Within : ℕ → List Page → Type 0
@@ -57,8 +57,8 @@ record Went (S D : ℕ) (b b′ : Book) (bytes : ℕ) : Type 0 where
 went-nowhere : (S D : ℕ) (b : Book) (bytes : ℕ) → Good S b → Went S D b b bytes
 went-nowhere S D b bytes g = record { good = g; banks = refl; m = 0; turns = 0; round = omega arith; falls = omega arith }
 
-kept : (S : ℕ) (b : Book) → FineBook b → (i : ℕ) → i < b .n → (k : Bank) → k .header .size ≡ S → k .usable ≡ S → Good S (withBank b i k)
-kept S b f i l k hs hu = record { bank = k; at = stored b f i l k; size = hs; usable = hu }
+good-kept : (S : ℕ) (b : Book) → FineBook b → (i : ℕ) → i < b .n → (k : Bank) → k .header .size ≡ S → k .usable ≡ S → Good S (withBank b i k)
+good-kept S b f i l k hs hu = record { bank = k; at = active-stored b f i l k; size = hs; usable = hu }
 
 module _ (S : ℕ) (b : Book) (f : FineBook b) (k : Bank) (g : Good S b) (e : activeSlot b ≡ valid k) where
   its-size : k .header .size ≡ S
@@ -71,24 +71,24 @@ module _ (S : ℕ) (b : Book) (f : FineBook b) (k : Bank) (g : Good S b) (e : ac
   unfolding slotTotal total
   went-edit D rs bytes h =
       record {
-        good = kept S b f (b .active) (f .inside) (withRecords k rs) its-size its-usable;
+        good = good-kept S b f (b .active) (f .inside) (withRecords k rs) its-size its-usable;
         banks = refl;
         m = 0;
         turns = 0;
         round = omega arith;
-        falls = rw (stored b f (b .active) (f .inside) (withRecords k rs), e) (omega arith);
+        falls = rw (active-stored b f (b .active) (f .inside) (withRecords k rs), e) (omega arith);
       }
 
   went-move : (L D : ℕ) → D + L ≤ suc S → (bytes : ℕ) → k .usable < total k → liveTotal k ≤ L → Went S D b (movedBook b k) bytes
   unfolding slotTotal total liveTotal
   went-move L D d bytes due l =
       record {
-        good = kept S b f (nextBank b) (next-inside b f) (moved k) its-size its-size;
+        good = good-kept S b f (nextBank b) (next-inside b f) (moved k) its-size its-size;
         banks = refl;
         m = 1;
         turns = (b .active + 1) / b .n;
         round = omega (arith, div-add-mod' (b .active + 1) (b .n));
-        falls = rw (stored b f (nextBank b) (next-inside b f) (moved k), e) (omega (arith, its-usable));
+        falls = rw (active-stored b f (nextBank b) (next-inside b f) (moved k), e) (omega (arith, its-usable));
       }
 
 one-call : (S L D : ℕ) → D + L ≤ suc S → (b : Book) (c : Call) (o : Outcome) → FineBook b → Good S b → Follows c (o .answer) → liveAt b c ≤ L → Did b c o
@@ -170,7 +170,7 @@ two-moves : (b : Book) → FineBook b → (k : Bank) (b₁ b₂ : Book) (k₂ : 
     → b .n * D ≤ bytes
 unfolding slotTotal total liveTotal
 two-moves b f k b₁ b₂ k₂ D L bytes q d l f₂ w at due same =
-    let first : slotTotal (activeSlot b₁) ≡ liveTotal k = rw (q, stored b f (nextBank b) (next-inside b f) (moved k)) in
+    let first : slotTotal (activeSlot b₁) ≡ liveTotal k = rw (q, active-stored b f (nextBank b) (next-inside b f) (moved k)) in
     let second : slotTotal (activeSlot b₂) ≡ total k₂ = rw at in
     let full : k₂ .usable ≡ k .header .size = its-usable (k .header .size) b₂ f₂ k₂ (w .good) at in
     let banks : b₂ .n ≡ b .n = w .banks ∙ ap (λ (x : Book). x .n) q in
@@ -199,7 +199,7 @@ module _ (b₀ : Book) (f : List ℕ) (b : Book) (m : ℕ) (first : Page) (betwe
   wear-within L D d h =
       let s = a .0 in
       let fine = s .base .fine in
-      let t = split b₀ (flashOf f first) b₁ (m + asks first) between (second ∷ later) (a .2) in
+      let t = along-split b₀ (flashOf f first) b₁ (m + asks first) between (second ∷ later) (a .2) in
       let u = asked-page b first offset (a .1) x in
       let v = asked-page b₂ second offset (t .1) y in
       let k = u .due .bank in
@@ -208,7 +208,7 @@ module _ (b₀ : Book) (f : List ℕ) (b : Book) (m : ℕ) (first : Page) (betwe
       let live : liveTotal k ≤ L = omega (arith, u .live, ap (λ (z : Book). liveAt z (first .event .call)) (a .1 .before), h .0) in
       let drop : D + L ≤ suc (k .header .size) = omega arith in
       let good : Good (k .header .size) b₁ =
-      subst (Good (k .header .size)) (sym q) (kept _ b fine (nextBank b) (next-inside b fine) (moved k) refl refl) in
+      subst (Good (k .header .size)) (sym q) (good-kept _ b fine (nextBank b) (next-inside b fine) (moved k) refl refl) in
       let w = went (k .header .size) L D drop b₀ (flashOf f first) b₁ (m + asks first) between (second ∷ later) (a .2) good (h .1) in
       subst (λ (n : ℕ). n * D ≤ insertedBytes between) (s .banks)
       (two-moves b fine k b₁ b₂ (v .due .bank) D L (insertedBytes between) q drop live (t .0 .base .fine) w (v .due .was) (v .due .due)

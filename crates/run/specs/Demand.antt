@@ -7,11 +7,10 @@ use mathlib.Core.Option.{Option, some}
 use lib.ListN.{length}
 use Rattle.bank.specs.declared.variable.VarType.{VarType}
 use Rattle.bank.specs.Bank.{Bank, valid}
+use Rattle.book.specs.Book.{partSize, Book, activeSlot}
+use Rattle.book.specs.Opening.{opening, opened}
+use Rattle.book.specs.Call.{lookup, fetch, committed, number, erase, step}
 use Rattle.nvram.specs.declared.state.Nvram.{Nvram}
-use Rattle.nvram.specs.Part.{partSize}
-use Rattle.nvram.specs.Book.{Book, activeSlot}
-use Rattle.nvram.specs.Opening.{opening, opened}
-use Rattle.nvram.specs.Call.{lookup, fetch, committed, number, erase, step}
 use Rattle.nvram.specs.Contract.{begun, call}
 use Rattle.run.specs.Flash.{carriedOut}
 use Rattle.run.specs.Run.{Opens, Event, Run, openedBook, Page, pages, Each, Never}

@@ -4,9 +4,9 @@ use mathlib.Core.List.{List, [], _∷_}
 use mathlib.Core.Option.{Option, none, some}
 use lib.Bits.{bitAnd}
 use lib.ListN.{length, take, drop, replicate}
+use Rattle.buffers.specs.Bytes.{over}
 use Rattle.bank.specs.Bank.{bankSize}
-use Rattle.bank.specs.Write.{over}
-use Rattle.nvram.specs.Call.{Answer, edited, looked, handed, committed, joined}
+use Rattle.book.specs.Call.{Answer, edited, looked, handed, committed, joined}
 
 -- an erase sets the 65,536 bytes from an offset on to 0xFF
 unfoldable pub erased : ℕ → List ℕ → List ℕ

@@ -6,10 +6,10 @@ use mathlib.Core.Logic.{_≢_}
 use mathlib.Core.List.{List, [], _∷_, _++_}
 use lib.ListN.{length}
 use Rattle.crc32.specs.Crc32.{Bytes}
+use Rattle.book.specs.Book.{Book}
+use Rattle.book.specs.Opening.{opening, readSlots, banksOf, bookOf}
+use Rattle.book.specs.Call.{Call, ByteCall, Answer, number, step}
 use Rattle.nvram.specs.declared.state.Nvram.{Nvram}
-use Rattle.nvram.specs.Book.{Book}
-use Rattle.nvram.specs.Opening.{opening, readSlots, banksOf, bookOf}
-use Rattle.nvram.specs.Call.{Call, ByteCall, Answer, number, step}
 use Rattle.nvram.specs.Contract.{begun, Does}
 
 -- an opening that answered 0: what it left is what the contract of `Nvram::parse` says

@@ -3,10 +3,10 @@ use Prim.Native.Nat.{ℕ, zero, suc, _+_, max}
 use mathlib.Core.List.{List, [], _∷_}
 use mathlib.Core.Option.{Option, none, some}
 use Rattle.bank.specs.Bank.{Slot, empty, invalid, valid}
-use Rattle.bank.specs.Figures.{liveTotal}
-use Rattle.nvram.specs.Edit.{grows}
-use Rattle.nvram.specs.Book.{Book, activeSlot, slotSize}
-use Rattle.nvram.specs.Call.{Call, edit, lookup, fetch, commit, wholeImage, number, erase}
+use Rattle.bank.specs.Totals.{liveTotal}
+use Rattle.book.specs.Edit.{grows}
+use Rattle.book.specs.Book.{Book, activeSlot, slotSize}
+use Rattle.book.specs.Call.{Call, edit, lookup, fetch, commit, wholeImage, number, erase}
 use Rattle.run.specs.Run.{Page}
 
 -- S: the size in the header of the book's active bank

@@ -5,7 +5,7 @@ use mathlib.Core.Path.{_≡_, sym, _∙_}
 use lib.ListN.{length, drop}
 use borrow.Author.Tests.{not-true, not-false}
 use Rattle.buffers.specs.Bytes.{allBlank}
-use Rattle.buffers.proofs.Walk.{test-fails, test-holds, blank-more, blank-none}
+use Rattle.buffers.proofs.LoopSteps.{test-fails, test-holds, blank-more, blank-none}
 use Rattle.buffers.proofs.all_blank.Statement.{statement}
 use Rattle.buffers.proofs.all_blank.Tie as tie
 

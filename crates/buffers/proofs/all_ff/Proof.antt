@@ -5,7 +5,7 @@ use mathlib.Core.Path.{_≡_, sym, ap, _∙_}
 use lib.ListN.{length, drop}
 use borrow.Author.Tests.{not-true, not-false}
 use Rattle.buffers.specs.Bytes.{allFF}
-use Rattle.buffers.proofs.Walk.{test-fails, test-holds, tail, ff-block}
+use Rattle.buffers.proofs.LoopSteps.{test-fails, test-holds, tail, ff-block}
 use Rattle.buffers.proofs.all_ff.Statement.{statement}
 use Rattle.buffers.proofs.all_ff.Tie as tie
 

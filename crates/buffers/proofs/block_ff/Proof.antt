@@ -1,10 +1,10 @@
-use Rattle.buffers.proofs.Walk.{Both, flag-more, flag-none, ff-more, ff-none}
 use borrow.Author.Needs.{needs}
 use native.Mathlib.Omega.{arith}
 use Prim.Native.Nat.{_≤_, _-_}
 use mathlib.Core.Path.{refl}
 use lib.ListN.{length, drop}
 use Rattle.buffers.specs.Bytes.{allFF}
+use Rattle.buffers.proofs.LoopSteps.{Both, flag-more, flag-none, ff-more, ff-none}
 use Rattle.buffers.proofs.block_ff.Statement.{statement}
 use Rattle.buffers.proofs.block_ff.Tie as tie
 

@@ -1,10 +1,10 @@
-use Rattle.buffers.proofs.Walk.{Both, flag-more, flag-none, eq-more, eq-none}
 use borrow.Author.Needs.{needs}
 use native.Mathlib.Omega.{arith}
 use Prim.Native.Nat.{_≤_, _-_}
 use mathlib.Core.Path.{refl}
 use lib.ListN.{length, drop}
 use Rattle.buffers.specs.Bytes.{eqBytes}
+use Rattle.buffers.proofs.LoopSteps.{Both, flag-more, flag-none, eq-more, eq-none}
 use Rattle.buffers.proofs.block_same.Statement.{statement}
 use Rattle.buffers.proofs.block_same.Tie as tie
 

@@ -4,7 +4,7 @@ use Prim.Native.Nat.{_≤_, _-_, min}
 use mathlib.Core.Path.{_≡_, sym, _∙_}
 use mathlib.Core.List.{_++_}
 use lib.ListN.{length, take, drop}
-use Rattle.buffers.proofs.Walk.{copy-more}
+use Rattle.buffers.proofs.LoopSteps.{copy-more}
 use Rattle.buffers.proofs.Laws.{onto-front}
 use Rattle.buffers.proofs.copy.Statement.{statement}
 use Rattle.buffers.proofs.copy.Tie as tie

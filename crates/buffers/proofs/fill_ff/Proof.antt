@@ -1,13 +1,13 @@
 use mathlib.Core.List.{append-nil, _++_}
-use Rattle.buffers.proofs.Walk.{fill-more}
+use Rattle.buffers.proofs.LoopSteps.{fill-more}
+use Rattle.buffers.proofs.fill_ff.Statement.{statement}
+use Rattle.buffers.proofs.fill_ff.Tie as tie
 use borrow.Author.Needs.{needs}
 use native.Mathlib.Omega.{arith}
 use Prim.Native.Nat.{_≤_, _-_}
 use mathlib.Core.Path.{_≡_, _∙_}
 use lib.ListN.{length, drop, replicate}
 use lib.Seq.{drop-length}
-use Rattle.buffers.proofs.fill_ff.Statement.{statement}
-use Rattle.buffers.proofs.fill_ff.Tie as tie
 
 abbrev Inv-loop : tie.InvT-loop
 Inv-loop s₀ i₀ s i = (i ≤ length s₀) × (length s ≡ length s₀) × (s ≡ replicate i 255 ++ drop i s₀)

@@ -4,7 +4,7 @@ use Prim.Native.Nat.{_≤_, _-_, _+_}
 use mathlib.Core.Path.{_≡_}
 use lib.ListN.{length, drop}
 use Rattle.buffers.specs.Bytes.{countFF}
-use Rattle.buffers.proofs.Walk.{lead-more, lead-stop, lead-none}
+use Rattle.buffers.proofs.LoopSteps.{lead-more, lead-stop, lead-none}
 use Rattle.buffers.proofs.lead_bytes.Statement.{statement}
 use Rattle.buffers.proofs.lead_bytes.Tie as tie
 

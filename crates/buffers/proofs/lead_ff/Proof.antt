@@ -6,7 +6,7 @@ use lib.ListN.{length, drop}
 use borrow.Author.Tests.{not-false}
 use Rattle.buffers.specs.Bytes.{countFF}
 use Rattle.buffers.proofs.Laws.{count-ff-le}
-use Rattle.buffers.proofs.Walk.{lead-block, tail}
+use Rattle.buffers.proofs.LoopSteps.{lead-block, tail}
 use Rattle.buffers.proofs.lead_ff.Statement.{statement}
 use Rattle.buffers.proofs.lead_ff.Tie as tie
 

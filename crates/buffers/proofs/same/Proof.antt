@@ -5,7 +5,7 @@ use mathlib.Core.Path.{_≡_, refl, sym, _∙_}
 use lib.ListN.{length, drop}
 use borrow.Author.Tests.{not-true, not-false, ne-eqb}
 use Rattle.buffers.specs.Bytes.{eqBytes}
-use Rattle.buffers.proofs.Walk.{test-fails, test-holds, tail, other-length, eq-more, eq-none, eq-block}
+use Rattle.buffers.proofs.LoopSteps.{test-fails, test-holds, tail, other-length, eq-more, eq-none, eq-block}
 use Rattle.buffers.proofs.same.Statement.{statement}
 use Rattle.buffers.proofs.same.Tie as tie
 

@@ -4,7 +4,7 @@ use native.Mathlib.Omega.{arith}
 use borrow.Author.Needs.{needs}
 use lib.ListN.{length, drop}
 use Rattle.crc32.specs.Table.{byBytes}
-use Rattle.crc32.proofs.Walk.{byte-more, byte-none}
+use Rattle.crc32.proofs.TableSteps.{byte-more, byte-none}
 use Rattle.crc32.proofs.by_bytes.Statement.{statement}
 use Rattle.crc32.proofs.by_bytes.Tie as tie
 

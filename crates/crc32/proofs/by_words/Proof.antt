@@ -1,12 +1,12 @@
-use Rattle.buffers.proofs.Walk.{tail}
-use Rattle.crc32.proofs.Walk.{run-length, run-more, run-none}
 use mathlib.Core.Path.{_≡_, sym, ap, _∙_}
 use Prim.Native.Nat.{_-_, _≤_}
 use native.Mathlib.Omega.{arith}
 use borrow.Author.Needs.{needs}
 use lib.Dec.{lit≤}
 use lib.ListN.{length, drop, length-drop}
+use Rattle.buffers.proofs.LoopSteps.{tail}
 use Rattle.crc32.specs.Table.{shares, byBytes, byWords}
+use Rattle.crc32.proofs.TableSteps.{run-length, run-more, run-none}
 use Rattle.crc32.proofs.by_words.Statement.{statement}
 use Rattle.crc32.proofs.by_words.Tie as tie
 

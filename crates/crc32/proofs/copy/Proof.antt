@@ -5,7 +5,7 @@ use borrow.Author.Needs.{needs}
 use mathlib.Core.List.{_++_}
 use lib.ListN.{length, take, drop}
 use lib.Seq.{take-length}
-use Rattle.buffers.proofs.Walk.{copy-more}
+use Rattle.buffers.proofs.LoopSteps.{copy-more}
 use Rattle.crc32.proofs.copy.Statement.{statement}
 use Rattle.crc32.proofs.copy.Tie as tie
 

@@ -6,9 +6,9 @@ use lib.Dec.{lit≤}
 use Rattle.crc32.specs.Crc32.{crc32Of}
 use Rattle.crc32.specs.Table.{crc32By}
 use Rattle.crc32.proofs.ByTable.{by-bytes, crc-by}
-use borrow.Author.Needs.{needs}
 use Rattle.crc32.proofs.crc32.Statement.{statement}
 use Rattle.crc32.proofs.crc32.Tie as tie
+use borrow.Author.Needs.{needs}
 
 byte-table-requires : tie.Need-byte-table-requires
 byte-table-requires c κs = search needs

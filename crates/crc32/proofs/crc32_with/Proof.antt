@@ -4,10 +4,10 @@ use Prim.Native.Nat.{ℕ}
 use lib.Bits.{bitXor}
 use Rattle.crc32.specs.Table.{block, byWords, byBlocks, crc32By}
 use Rattle.crc32.proofs.ByTable.{crc-by}
-use Rattle.crc32.proofs.Walk.{run-none}
-use borrow.Author.Needs.{needs}
+use Rattle.crc32.proofs.TableSteps.{run-none}
 use Rattle.crc32.proofs.crc32_with.Statement.{statement}
 use Rattle.crc32.proofs.crc32_with.Tie as tie
+use borrow.Author.Needs.{needs}
 
 by-words-requires : tie.Need-by-words-requires
 by-words-requires c κs = search needs

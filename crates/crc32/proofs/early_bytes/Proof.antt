@@ -1,7 +1,7 @@
 use Rattle.crc32.proofs.Shares.{early}
-use borrow.Author.Needs.{needs}
 use Rattle.crc32.proofs.early_bytes.Statement.{statement}
 use Rattle.crc32.proofs.early_bytes.Tie as tie
+use borrow.Author.Needs.{needs}
 
 shared-slice-read-u32-of : tie.Need-shared-slice-read-u32-of
 shared-slice-read-u32-of c = search needs

@@ -5,7 +5,7 @@ use borrow.Author.Needs.{needs}
 use lib.Bits.{bitXor, xor-zero-l}
 use lib.ListN.{length, drop}
 use Rattle.crc32.specs.Table.{shares}
-use Rattle.crc32.proofs.Walk.{late-more, late-none}
+use Rattle.crc32.proofs.TableSteps.{late-more, late-none}
 use Rattle.crc32.proofs.late_bytes.Statement.{statement}
 use Rattle.crc32.proofs.late_bytes.Tie as tie
 

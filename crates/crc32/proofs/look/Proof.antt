@@ -1,9 +1,9 @@
 use native.Mathlib.Omega.{arith}
 use lib.Bits.{mask-lt}
-use Rattle.crc32.specs.Table.{entry}
-use borrow.Author.Needs.{needs}
+use Rattle.crc32.specs.Table.{tableEntry}
 use Rattle.crc32.proofs.look.Statement.{statement}
 use Rattle.crc32.proofs.look.Tie as tie
+use borrow.Author.Needs.{needs}
 
 mul-result : tie.Need-mul-result
 mul-result c = search needs
@@ -21,7 +21,7 @@ shared-slice-read-result : tie.Need-shared-slice-read-result
 shared-slice-read-result c = omega (arith, mask-lt (c .before .args .n) 8)
 
 returns : tie.Need-returns
-unfolding entry
+unfolding tableEntry
 returns c = search needs
 
 pub look-spec : {M : Type 1} → statement M

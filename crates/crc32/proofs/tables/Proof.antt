@@ -1,9 +1,9 @@
 use mathlib.Core.Path.{refl}
 use Rattle.crc32.specs.Crc32.{polyIf, bitStep, bitSteps}
 use Rattle.crc32.proofs.Rule.{copied, both, pairs, count, firsts}
-use borrow.Author.Needs.{needs}
 use Rattle.crc32.proofs.tables.Statement.{statement}
 use Rattle.crc32.proofs.tables.Tie as tie
+use borrow.Author.Needs.{needs}
 
 byte-table-requires : tie.Need-byte-table-requires
 byte-table-requires c κs = search needs

@@ -1,7 +1,7 @@
 use Rattle.bank.specs.Number.{le32}
-use borrow.Author.Needs.{needs}
 use Rattle.bank.proofs.number.le32.Statement.{statement}
 use Rattle.bank.proofs.number.le32.Tie as tie
+use borrow.Author.Needs.{needs}
 
 cast-t3 : tie.Need-cast-t3
 cast-t3 c = search needs

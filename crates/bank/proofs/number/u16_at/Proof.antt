@@ -1,7 +1,7 @@
 use Rattle.bank.specs.Number.{u16At}
-use borrow.Author.Needs.{needs}
 use Rattle.bank.proofs.number.u16_at.Statement.{statement}
 use Rattle.bank.proofs.number.u16_at.Tie as tie
+use borrow.Author.Needs.{needs}
 
 shared-slice-read-wide16 : tie.Need-shared-slice-read-wide16
 shared-slice-read-wide16 c = search needs

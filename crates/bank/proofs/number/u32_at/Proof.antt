@@ -1,7 +1,7 @@
 use Rattle.bank.specs.Number.{u32At}
-use borrow.Author.Needs.{needs}
 use Rattle.bank.proofs.number.u32_at.Statement.{statement}
 use Rattle.bank.proofs.number.u32_at.Tie as tie
+use borrow.Author.Needs.{needs}
 
 shared-slice-read-u32-of : tie.Need-shared-slice-read-u32-of
 shared-slice-read-u32-of c = search needs

@@ -1,10 +1,10 @@
-use Rattle.bank.proofs.LeafLaws.{name-is, value-is}
-use Rattle.bank.specs.Record.{nameAt}
 use native.Mathlib.Omega.{arith}
 use mathlib.Core.Path.{_≡_, ap}
 use Prim.Native.Nat.{ℕ, _-_, _+_}
 use lib.ListN.{length-set, set}
 use borrow.Author.Needs.{needs}
+use Rattle.bank.specs.Record.{nameAt}
+use Rattle.bank.proofs.FieldLaws.{name-is, value-is}
 use Rattle.bank.proofs.partition.normalize.Statement.{statement}
 use Rattle.bank.proofs.partition.normalize.Tie as tie
 

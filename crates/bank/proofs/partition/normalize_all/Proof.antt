@@ -1,4 +1,3 @@
-use Rattle.bank.proofs.NormalizeLaws.{part-fits, step-more, step-within, step-next, Left, begin, done}
 use borrow.Rule.Slice.PartMut.{same-len-mid}
 use lib.ListN.{length-set, length, take, drop}
 use native.Mathlib.Omega.{arith}
@@ -6,13 +5,15 @@ use borrow.Author.Needs.{needs}
 use mathlib.Core.Path.{_≡_, refl, ap, _∙_, subst}
 use Prim.Native.Nat.{_-_, _≤_}
 use mathlib.Core.List.{List}
+use Rattle.buffers.specs.Bytes.{over}
 use Rattle.bank.specs.Record.{Record, recordsBytes}
-use Rattle.bank.specs.Write.{over, Raw}
+use Rattle.bank.specs.Raw.{Raw}
+use Rattle.bank.proofs.NormalizeLaws.{part-fits, step-more, step-within, step-next, ToNormalize, begin, done}
 use Rattle.bank.proofs.partition.normalize_all.Statement.{statement}
 use Rattle.bank.proofs.partition.normalize_all.Tie as tie
 
 abbrev Inv-loop : tie.InvT-loop
-Inv-loop s₀ total at₀ s at = (length s ≡ length s₀) × (at ≤ total) × ((rs : List Record) → Raw (take (total - 24) (drop 24 s₀)) rs → Left total (over 24 (recordsBytes rs) s₀) s at)
+Inv-loop s₀ total at₀ s at = (length s ≡ length s₀) × (at ≤ total) × ((rs : List Record) → Raw (take (total - 24) (drop 24 s₀)) rs → ToNormalize total (over 24 (recordsBytes rs) s₀) s at)
 
 abbrev μ-loop : tie.MeasureT-loop
 μ-loop s₀ total at₀ s at = total - at
@@ -58,7 +59,7 @@ same-length c = search needs
 
 returns : tie.Need-returns Inv-loop μ-loop
 returns c = let now = c .before .loop in let a = c .before .before .before .args in
-    λ rs raw. done (a .total) _ (now .s) (subst (Left (a .total) (over 24 (recordsBytes rs) (a .s .now)) (now .s)) (search needs) (now .inv .2 rs raw))
+    λ rs raw. done (a .total) _ (now .s) (subst (ToNormalize (a .total) (over 24 (recordsBytes rs) (a .s .now)) (now .s)) (search needs) (now .inv .2 rs raw))
 
 pub normalize-all-spec : {M : Type 1} → statement M
 normalize-all-spec =

@@ -1,9 +1,9 @@
 use mathlib.Core.Path.{sym, _∙_}
 use Rattle.bank.specs.Read.{erasedSlot}
 use Rattle.bank.specs.Answer.{answer}
-use borrow.Author.Needs.{needs}
 use Rattle.bank.proofs.partition.read_erased.Statement.{statement}
 use Rattle.bank.proofs.partition.read_erased.Tie as tie
+use borrow.Author.Needs.{needs}
 
 all-ff-requires : tie.Need-all-ff-requires
 all-ff-requires c κs = search needs

@@ -2,9 +2,9 @@ use native.Mathlib.Omega.{arith}
 use mathlib.Core.Path.{sym, _∙_}
 use Rattle.bank.proofs.ReadBank.{head-fine}
 use Rattle.bank.proofs.PartitionLaws.{read-spoiled, read-kept, at-within, blank-within}
-use borrow.Author.Needs.{needs}
 use Rattle.bank.proofs.partition.read_partition.Statement.{statement}
 use Rattle.bank.proofs.partition.read_partition.Tie as tie
+use borrow.Author.Needs.{needs}
 
 tables-requires : tie.Need-tables-requires
 tables-requires c κs = search needs

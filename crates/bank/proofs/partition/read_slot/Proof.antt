@@ -1,8 +1,8 @@
 use Rattle.bank.proofs.PartitionLaws.{read-size, read-version, read-signature}
-use mathlib.Core.Path.{sym, _∙_}
-use borrow.Author.Needs.{needs}
 use Rattle.bank.proofs.partition.read_slot.Statement.{statement}
 use Rattle.bank.proofs.partition.read_slot.Tie as tie
+use mathlib.Core.Path.{sym, _∙_}
+use borrow.Author.Needs.{needs}
 
 parse-requires : tie.Need-parse-requires
 parse-requires c κs = search needs

@@ -1,12 +1,12 @@
 use lib.ListN.{take, drop, length-take}
 use Rattle.buffers.proofs.Laws.{count-ff-le}
+use Rattle.bank.specs.Read.{usableAt}
+use Rattle.bank.proofs.partition.usable.Statement.{statement}
+use Rattle.bank.proofs.partition.usable.Tie as tie
 use native.Mathlib.Omega.{arith}
 use mathlib.Core.Path.{refl, ap}
 use Prim.Native.Nat.{ℕ, _+_, _-_}
-use Rattle.bank.specs.Read.{usableAt}
 use borrow.Author.Needs.{needs}
-use Rattle.bank.proofs.partition.usable.Statement.{statement}
-use Rattle.bank.proofs.partition.usable.Tie as tie
 
 enum-told : tie.Need-enum-told
 enum-told c = search needs

@@ -1,12 +1,12 @@
 use lib.ListN.{length, length-replicate}
 use Prim.Native.Nat.{_-_}
 use Rattle.bank.proofs.WriteLaws.{Given, total-low, total-high, copied-raw, copied-long, written-long, length-written, filled}
+use Rattle.bank.proofs.partition.write.Statement.{statement}
+use Rattle.bank.proofs.partition.write.Tie as tie
 use borrow.Rule.Slice.PartMut.{same-len-mid}
 use native.Mathlib.Omega.{arith}
 use mathlib.Core.Path.{ap, _∙_}
 use borrow.Author.Needs.{needs}
-use Rattle.bank.proofs.partition.write.Statement.{statement}
-use Rattle.bank.proofs.partition.write.Tie as tie
 
 given : (c : tie.After-shared-slice-known)
     → Given (c .before .args .nvr .now) (c .before .args .out .now) (c .before .pre .2 .0) (c .before .args .total)

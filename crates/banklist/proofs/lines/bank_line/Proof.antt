@@ -1,7 +1,7 @@
-use Rattle.banklist.specs.Text.{field, line}
-use Rattle.banklist.specs.Listing.{bankLine}
-use Rattle.banklist.proofs.PutLaws.{join, fields, first, next, last}
 use borrow.Author.Needs.{needs}
+use Rattle.text.specs.Text.{field, line}
+use Rattle.text.proofs.PutLaws.{join, fields, first, next, last}
+use Rattle.banklist.specs.Listing.{bankLine}
 use Rattle.banklist.proofs.lines.bank_line.Statement.{statement}
 use Rattle.banklist.proofs.lines.bank_line.Tie as tie
 

@@ -1,8 +1,8 @@
-use Rattle.banklist.specs.Text.{field}
-use Rattle.banklist.proofs.TextLaws.{key-none, key-some}
-use borrow.Author.Needs.{needs}
+use Rattle.text.specs.Text.{field}
+use Rattle.banklist.proofs.KeyLaws.{key-none, key-some}
 use Rattle.banklist.proofs.lines.put_key.Statement.{statement}
 use Rattle.banklist.proofs.lines.put_key.Tie as tie
+use borrow.Author.Needs.{needs}
 
 slice-aggregate-put-all : tie.Need-slice-aggregate-put-all
 slice-aggregate-put-all c = search needs

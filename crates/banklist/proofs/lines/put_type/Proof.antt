@@ -1,8 +1,8 @@
-use Rattle.banklist.specs.Text.{field}
+use Rattle.text.specs.Text.{field}
 use Rattle.banklist.specs.Listing.{typeWord}
-use borrow.Author.Needs.{needs}
 use Rattle.banklist.proofs.lines.put_type.Statement.{statement}
 use Rattle.banklist.proofs.lines.put_type.Tie as tie
+use borrow.Author.Needs.{needs}
 
 enum-told : tie.Need-enum-told
 enum-told c = search needs

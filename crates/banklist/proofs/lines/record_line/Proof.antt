@@ -1,9 +1,9 @@
 use mathlib.Core.Path.{ap, sym}
 use lib.ListN.{length}
-use Rattle.banklist.specs.Text.{be32, line}
-use Rattle.banklist.specs.Listing.{fieldsLine}
-use Rattle.banklist.proofs.PutLaws.{join, fields, first, next, last}
 use borrow.Author.Needs.{needs}
+use Rattle.text.specs.Text.{be32, line}
+use Rattle.text.proofs.PutLaws.{join, fields, first, next, last}
+use Rattle.banklist.specs.Listing.{fieldsLine}
 use Rattle.banklist.proofs.lines.record_line.Statement.{statement}
 use Rattle.banklist.proofs.lines.record_line.Tie as tie
 

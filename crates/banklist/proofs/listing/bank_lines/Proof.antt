@@ -1,8 +1,8 @@
 use mathlib.Core.Path.{_≡_}
 use Rattle.banklist.proofs.BankLaws.{total-is, room-first, room-records, room-last, all-put}
-use borrow.Author.Needs.{needs}
 use Rattle.banklist.proofs.listing.bank_lines.Statement.{statement}
 use Rattle.banklist.proofs.listing.bank_lines.Tie as tie
+use borrow.Author.Needs.{needs}
 
 bank-line-requires : tie.Need-bank-line-requires
 bank-line-requires c κs = let q = c .before .before .before .before .pre .1 in room-first (q .0) (q .2) (q .3)

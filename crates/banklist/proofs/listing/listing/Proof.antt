@@ -2,13 +2,13 @@ use mathlib.Core.Path.{sym, _∙_}
 use native.Mathlib.Omega.{arith}
 use lib.Seq.{length-take-le}
 use Rattle.bank.specs.Bank.{bankSize}
-use Rattle.banklist.specs.Text.{field, line}
+use Rattle.text.specs.Text.{field, line}
 use Rattle.banklist.specs.Listing.{outSize}
 use Rattle.banklist.proofs.FitLaws.{listing-fits}
-use Rattle.banklist.proofs.SlotLaws.{said, left-alone, left-listed}
-use borrow.Author.Needs.{needs}
+use Rattle.banklist.proofs.ListingLaws.{said, left-alone, left-listed}
 use Rattle.banklist.proofs.listing.listing.Statement.{statement}
 use Rattle.banklist.proofs.listing.listing.Tie as tie
+use borrow.Author.Needs.{needs}
 
 returns : tie.Need-returns
 unfolding outSize

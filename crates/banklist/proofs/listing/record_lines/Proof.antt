@@ -1,14 +1,14 @@
-use Rattle.banklist.proofs.RowLaws.{Left, left-all, left-sized, left-room, left-turn, left-none}
 use borrow.Author.Needs.{needs}
 use native.Mathlib.Omega.{arith}
 use Prim.Native.Nat.{_-_}
 use Rattle.bank.specs.Bank.{bankSize}
-use Rattle.banklist.proofs.PutLaws.{length-put}
+use Rattle.text.proofs.PutLaws.{length-put}
+use Rattle.banklist.proofs.RowLaws.{ToList, left-all, left-sized, left-room, left-turn, left-none}
 use Rattle.banklist.proofs.listing.record_lines.Statement.{statement}
 use Rattle.banklist.proofs.listing.record_lines.Tie as tie
 
 abbrev Inv-loop : tie.InvT-loop
-Inv-loop out₀ from nvr total p₀ at₀ index₀ out p at index = Left nvr out₀ from total out p at index
+Inv-loop out₀ from nvr total p₀ at₀ index₀ out p at index = ToList nvr out₀ from total out p at index
 
 abbrev μ-loop : tie.MeasureT-loop
 μ-loop out₀ from nvr total p₀ at₀ index₀ out p at index = total - at

@@ -1,8 +1,8 @@
 use mathlib.Core.Path.{ap, _∙_}
 use Rattle.exports.specs.Numbers.{slotNumber, slotFields}
-use borrow.Author.Needs.{needs}
 use Rattle.exports.proofs.partition.feqyondil_partition_parse.Statement.{statement}
 use Rattle.exports.proofs.partition.feqyondil_partition_parse.Tie as tie
+use borrow.Author.Needs.{needs}
 
 parse-requires : tie.Need-parse-requires
 parse-requires c κs = search needs

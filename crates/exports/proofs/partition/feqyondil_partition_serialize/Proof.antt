@@ -1,8 +1,8 @@
 use mathlib.Core.Path.{ap, _∙_}
 use Rattle.exports.specs.Numbers.{slotNumber, slotFields}
-use borrow.Author.Needs.{needs}
 use Rattle.exports.proofs.partition.feqyondil_partition_serialize.Statement.{statement}
 use Rattle.exports.proofs.partition.feqyondil_partition_serialize.Tie as tie
+use borrow.Author.Needs.{needs}
 
 serialize-requires : tie.Need-serialize-requires
 serialize-requires c κs = search needs

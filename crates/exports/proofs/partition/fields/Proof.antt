@@ -1,8 +1,8 @@
 use mathlib.Core.Path.{sym, ap}
 use Rattle.exports.specs.Numbers.{slotFields}
-use borrow.Author.Needs.{needs}
 use Rattle.exports.proofs.partition.fields.Statement.{statement}
 use Rattle.exports.proofs.partition.fields.Tie as tie
+use borrow.Author.Needs.{needs}
 
 enum-told : tie.Need-enum-told
 enum-told c = search needs

@@ -1,13 +1,13 @@
 use mathlib.Core.Path.{refl}
 use borrow.Author.Tests.{not-true, not-false}
 use lib.ListN.{length}
-use Rattle.nvram.specs.Call.{commit}
-use Rattle.writer.specs.Answer.{applied}
-use Rattle.exports.proofs.StateLaws.{read-is}
-use Rattle.exports.proofs.StoreLaws.{load-none, load-some, calls-6, calls}
-use borrow.Author.Needs.{needs}
+use Rattle.book.specs.Call.{commit}
+use Rattle.commit.specs.Applied.{applied}
+use Rattle.state_bytes.proofs.StateLaws.{read-is}
+use Rattle.exports.proofs.StoreLaws.{loaded-none, loaded-some, calls-6, calls}
 use Rattle.exports.proofs.store.feqyondil_commit.Statement.{statement}
 use Rattle.exports.proofs.store.feqyondil_commit.Tie as tie
+use borrow.Author.Needs.{needs}
 
 load-requires : tie.Need-load-requires
 load-requires c κs = search needs
@@ -17,13 +17,13 @@ same-length c = search needs
 
 returns : tie.Need-returns
 returns c = let a = c .before .before .before .before .before .before .before .before .args in
-    calls-6 (commit (length (a .output .now))) (a .state .now) (a .work .now) (a .output .now) _ _ _ (load-none _ _ (c .before .before .before .load .ensures) (not-true _ (c .before .if1 .taken))) (record { returned = refl; fields = refl; bytes = refl; rest = refl })
+    calls-6 (commit (length (a .output .now))) (a .state .now) (a .work .now) (a .output .now) _ _ _ (loaded-none _ _ (c .before .before .before .load .ensures) (not-true _ (c .before .if1 .taken))) (record { returned = refl; fields = refl; bytes = refl; rest = refl })
 
 apply-requires : tie.Need-apply-requires
 apply-requires c κs = search needs
 
 store-requires : tie.Need-store-requires
-store-requires c κs = read-is _ _ (load-some _ _ (c .before .before .before .before .before .before .before .before .before .before .before .before .load .ensures) (not-false _ (c .before .before .before .before .before .before .before .before .before .before .if1 .left))) .room
+store-requires c κs = read-is _ _ (loaded-some _ _ (c .before .before .before .before .before .before .before .before .before .before .before .before .load .ensures) (not-false _ (c .before .before .before .before .before .before .before .before .before .before .if1 .left))) .room
 
 requests-requires : tie.Need-requests-requires
 requests-requires c κs = search needs
@@ -40,7 +40,7 @@ same-length-4 c = search needs
 returns-2 : tie.Need-returns-2
 returns-2 c = let a = c .before .before .before .before .before .before .before .before .before .before .before .before .before .before .before .before .before .before .before .before .before .args in
     let d = c .before .before .before .before .before .before .before .before .before .before .apply in
-    calls (commit (length (a .output .now))) (a .state .now) (a .work .now) (a .output .now) _ _ _ _ (load-some _ _ (c .before .before .before .before .before .before .before .before .before .before .before .before .before .before .before .before .load .ensures) (not-false _ (c .before .before .before .before .before .before .before .before .before .before .before .before .before .before .if1 .left)))
+    calls (commit (length (a .output .now))) (a .state .now) (a .work .now) (a .output .now) _ _ _ _ (loaded-some _ _ (c .before .before .before .before .before .before .before .before .before .before .before .before .before .before .before .before .load .ensures) (not-false _ (c .before .before .before .before .before .before .before .before .before .before .before .before .before .before .if1 .left)))
     (applied (d .result)) _ (record { returned = refl; fields = c .requests .ensures; bytes = refl; rest = d .ensures .1 }) _ _ _ (d .ensures .0) (c .before .before .before .store .ensures)
 
 pub feqyondil-commit-spec : {M : Type 1} → statement M

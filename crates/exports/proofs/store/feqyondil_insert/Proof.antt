@@ -1,12 +1,12 @@
-use Rattle.exports.proofs.StoreLaws.{load-none, load-some, calls-6, calls}
 use borrow.Author.Tests.{not-true, not-false}
 use mathlib.Core.Path.{refl}
 use mathlib.Core.List.{[]}
-use Rattle.nvram.specs.Edit.{plain, insert}
-use Rattle.nvram.specs.Call.{edit, edited}
-use Rattle.exports.specs.Store.{typeOf}
-use Rattle.exports.proofs.StateLaws.{read-is}
 use borrow.Author.Needs.{needs}
+use Rattle.book.specs.Edit.{plain, insert}
+use Rattle.book.specs.Call.{edit, edited}
+use Rattle.state_bytes.proofs.StateLaws.{read-is}
+use Rattle.exports.specs.Store.{varTypeOf}
+use Rattle.exports.proofs.StoreLaws.{loaded-none, loaded-some, calls-6, calls}
 use Rattle.exports.proofs.store.feqyondil_insert.Statement.{statement}
 use Rattle.exports.proofs.store.feqyondil_insert.Tie as tie
 
@@ -17,7 +17,7 @@ same-length : tie.Need-same-length
 same-length c = search needs
 
 returns : tie.Need-returns
-returns c = let a = c .before .before .before .before .before .before .before .before .args in calls-6 (edit (insert plain (a .key .now) (a .value .now) (typeOf (a .typ)))) (a .state .now) (a .work .now) [] _ [] [] (load-none _ _ (c .before .before .load .ensures) (not-true _ (c .if1 .taken))) (refl, refl, refl)
+returns c = let a = c .before .before .before .before .before .before .before .before .args in calls-6 (edit (insert plain (a .key .now) (a .value .now) (varTypeOf (a .typ)))) (a .state .now) (a .work .now) [] _ [] [] (loaded-none _ _ (c .before .before .load .ensures) (not-true _ (c .if1 .taken))) (refl, refl, refl)
 
 var-type-requires : tie.Need-var-type-requires
 var-type-requires c κs = search needs
@@ -26,7 +26,7 @@ insert-variable-requires : tie.Need-insert-variable-requires
 insert-variable-requires c κs = search needs
 
 store-requires : tie.Need-store-requires
-store-requires c κs = read-is _ _ (load-some _ _ (c .before .before .before .before .before .before .before .before .before .before .load .ensures) (not-false _ (c .before .before .before .before .before .before .before .before .if1 .left))) .room
+store-requires c κs = read-is _ _ (loaded-some _ _ (c .before .before .before .before .before .before .before .before .before .before .load .ensures) (not-false _ (c .before .before .before .before .before .before .before .before .if1 .left))) .room
 
 same-length-2 : tie.Need-same-length-2
 same-length-2 c = search needs
@@ -37,7 +37,7 @@ same-length-3 c = search needs
 returns-2 : tie.Need-returns-2
 returns-2 c = let a = c .before .before .before .before .before .before .before .before .before .before .before .before .before .before .before .before .before .before .before .args in
     let t = c .before .before .before .before .before .before .before .before .var-type .ensures in
-    calls (edit (insert plain (a .key .now) (a .value .now) (typeOf (a .typ)))) (a .state .now) (a .work .now) [] _ [] [] _ (load-some _ _ (c .before .before .before .before .before .before .before .before .before .before .before .before .before .load .ensures) (not-false _ (c .before .before .before .before .before .before .before .before .before .before .before .if1 .left)))
+    calls (edit (insert plain (a .key .now) (a .value .now) (varTypeOf (a .typ)))) (a .state .now) (a .work .now) [] _ [] [] _ (loaded-some _ _ (c .before .before .before .before .before .before .before .before .before .before .before .before .before .load .ensures) (not-false _ (c .before .before .before .before .before .before .before .before .before .before .before .if1 .left)))
     (edited (c .before .before .before .before .before .before .before .insert-variable .result .number)) [] (refl, refl, refl) _ _ _ (rw t at (c .before .before .before .before .before .before .before .insert-variable .ensures)) (c .before .before .store .ensures)
 
 pub feqyondil-insert-spec : {M : Type 1} → statement M

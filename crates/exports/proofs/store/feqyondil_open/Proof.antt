@@ -1,7 +1,7 @@
 use Rattle.exports.proofs.StoreLaws.{opens-6, opens}
-use borrow.Author.Needs.{needs}
 use Rattle.exports.proofs.store.feqyondil_open.Statement.{statement}
 use Rattle.exports.proofs.store.feqyondil_open.Tie as tie
+use borrow.Author.Needs.{needs}
 
 returns : tie.Need-returns
 returns c = opens-6 _ _ _ (c .if1 .taken)

@@ -1,12 +1,12 @@
-use Rattle.exports.proofs.StoreLaws.{load-none, load-some, calls-6, removes}
 use native.Mathlib.Omega.{arith}
 use borrow.Author.Tests.{not-true, not-false}
 use mathlib.Core.Path.{refl}
 use mathlib.Core.List.{[]}
-use Rattle.nvram.specs.Edit.{remove}
-use Rattle.nvram.specs.Call.{edit}
-use Rattle.exports.specs.Store.{typeOf}
 use borrow.Author.Needs.{needs}
+use Rattle.book.specs.Edit.{remove}
+use Rattle.book.specs.Call.{edit}
+use Rattle.exports.specs.Store.{varTypeOf}
+use Rattle.exports.proofs.StoreLaws.{loaded-none, loaded-some, calls-6, removes}
 use Rattle.exports.proofs.store.feqyondil_remove.Statement.{statement}
 use Rattle.exports.proofs.store.feqyondil_remove.Tie as tie
 
@@ -14,7 +14,7 @@ load-requires : tie.Need-load-requires
 load-requires c κs = search needs
 
 returns : tie.Need-returns
-returns c = let a = c .before .before .before .before .before .before .args in calls-6 (edit (remove (a .key .now) (typeOf (a .typ)))) (a .state .now) (a .work .now) [] _ [] [] (load-none _ _ (c .before .before .load .ensures) (not-true _ (c .if1 .taken))) (refl, refl, refl)
+returns c = let a = c .before .before .before .before .before .before .args in calls-6 (edit (remove (a .key .now) (varTypeOf (a .typ)))) (a .state .now) (a .work .now) [] _ [] [] (loaded-none _ _ (c .before .before .load .ensures) (not-true _ (c .if1 .taken))) (refl, refl, refl)
 
 var-type-requires : tie.Need-var-type-requires
 var-type-requires c κs = search needs
@@ -28,7 +28,7 @@ same-length c = search needs
 returns-2 : tie.Need-returns-2
 returns-2 c = let a = c .before .before .before .before .before .before .before .before .before .before .before .before .args in
     let t = c .before .before .before .var-type .ensures in
-    removes (a .key .now) (typeOf (a .typ)) (a .state .now) (a .work .now) _ (load-some _ _ (c .before .before .before .before .before .before .before .before .load .ensures) (not-false _ (c .before .before .before .before .before .before .if1 .left)))
+    removes (a .key .now) (varTypeOf (a .typ)) (a .state .now) (a .work .now) _ (loaded-some _ _ (c .before .before .before .before .before .before .before .before .load .ensures) (not-false _ (c .before .before .before .before .before .before .if1 .left)))
     (λ i. omega (arith, c .before .before .before .before .before .before .before .before .before .before .before .shared-slice-known .given i)) (λ i. omega (arith, c .before .before .before .before .before .before .before .before .before .before .slice-known .given i)) _ _ _ (rw t at (c .before .before .remove-variable .ensures))
 
 pub feqyondil-remove-spec : {M : Type 1} → statement M

@@ -1,10 +1,10 @@
 use mathlib.Core.Path.{sym, ap}
-use Rattle.nvram.specs.declared.lookup.Lookup.{Lookup}
-use Rattle.nvram.specs.Contract.{told}
+use Rattle.variables.specs.declared.lookup.Lookup.{Lookup}
+use Rattle.variables.specs.Told.{lookupAnswer}
 use Rattle.exports.specs.Store.{fieldsOf}
-use borrow.Author.Needs.{needs}
 use Rattle.exports.proofs.store.fields.Statement.{statement}
 use Rattle.exports.proofs.store.fields.Tie as tie
+use borrow.Author.Needs.{needs}
 
 enum-known-found : tie.Need-enum-known-found
 enum-known-found c = search needs
@@ -16,7 +16,7 @@ enum-told-2 : tie.Need-enum-told-2
 enum-told-2 c = search needs
 
 returns : tie.Need-returns
-returns c = sym (ap (λ (l : Lookup). fieldsOf (told l)) (c .before .found .given .1))
+returns c = sym (ap (λ (l : Lookup). fieldsOf (lookupAnswer l)) (c .before .found .given .1))
 
 returns-2 : tie.Need-returns-2
 returns-2 c = search needs

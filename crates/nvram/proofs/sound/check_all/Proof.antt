@@ -1,10 +1,10 @@
 use native.Mathlib.Omega.{arith}
 use mathlib.Core.Path.{_∙_}
-use Rattle.nvram.proofs.CheckedLaws.{checked-none}
+use Rattle.records.proofs.CheckedLaws.{checked-none}
 use Rattle.nvram.proofs.TableLaws.{view-low, view-high, view-outside, view-short, view-slots}
-use borrow.Author.Needs.{needs}
 use Rattle.nvram.proofs.sound.check_all.Statement.{statement}
 use Rattle.nvram.proofs.sound.check_all.Tie as tie
+use borrow.Author.Needs.{needs}
 
 cast-n : tie.Need-cast-n
 cast-n c = search needs

@@ -3,12 +3,13 @@ use mathlib.Core.Path.{_≡_, sym, ap, _∙_}
 use mathlib.Core.Bool.{true, false}
 use lib.ListN.{drop}
 use borrow.Author.Tests.{not-true, not-false}
-use Rattle.buffers.specs.Bytes.{allFF}
-use Rattle.buffers.proofs.Walk.{tail}
-use Rattle.nvram.specs.Checked.{checked, slotFigures}
-use Rattle.nvram.proofs.CheckedLaws.{checked-none}
-use Rattle.nvram.proofs.SoundLaws.{bank-reserved, bank-low, bank-high, bank-usable, bank-size, bank-rest, bank-records, checked-slot}
 use borrow.Author.Needs.{needs}
+use Rattle.buffers.specs.Bytes.{allFF}
+use Rattle.buffers.proofs.LoopSteps.{tail}
+use Rattle.records.specs.Checked.{checked}
+use Rattle.records.proofs.CheckedLaws.{checked-none}
+use Rattle.nvram.specs.SlotFigures.{slotFigures}
+use Rattle.nvram.proofs.SoundLaws.{bank-reserved, bank-low, bank-high, bank-usable, bank-size, bank-rest, bank-records, checked-slot}
 use Rattle.nvram.proofs.sound.check_bank.Statement.{statement}
 use Rattle.nvram.proofs.sound.check_bank.Tie as tie
 

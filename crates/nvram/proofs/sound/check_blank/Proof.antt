@@ -1,7 +1,7 @@
 use mathlib.Core.Path.{ap₂}
 use mathlib.Core.Bool.{Bool}
 use borrow.Author.Needs.{needs}
-use Rattle.nvram.specs.declared.figures.Figures.{Figures}
+use Rattle.records.specs.declared.figures.Figures.{Figures}
 use Rattle.nvram.proofs.sound.check_blank.Statement.{statement}
 use Rattle.nvram.proofs.sound.check_blank.Tie as tie
 

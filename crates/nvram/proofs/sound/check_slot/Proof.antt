@@ -1,9 +1,9 @@
 use mathlib.Core.Path.{sym, ap, _∙_}
-use Rattle.nvram.specs.Part.{viewHead}
-use Rattle.nvram.specs.Checked.{checked}
-use Rattle.nvram.proofs.CheckedLaws.{checked-none}
-use Rattle.nvram.proofs.SoundLaws.{slot-empty, slot-invalid, slot-head}
 use borrow.Author.Needs.{needs}
+use Rattle.records.specs.Checked.{checked}
+use Rattle.records.proofs.CheckedLaws.{checked-none}
+use Rattle.nvram.specs.Part.{viewHead}
+use Rattle.nvram.proofs.SoundLaws.{slot-empty, slot-invalid, slot-head}
 use Rattle.nvram.proofs.sound.check_slot.Statement.{statement}
 use Rattle.nvram.proofs.sound.check_slot.Tie as tie
 

@@ -5,7 +5,8 @@ use mathlib.Core.Path.{_≡_, sym, _∙_}
 use lib.ListN.{length, length-map, length-take, length-drop}
 use borrow.Author.Tests.{not-true, not-false}
 use Rattle.crc32.specs.Table.{IsTables}
-use Rattle.nvram.specs.Checked.{checked, figuresAt}
+use Rattle.records.specs.Checked.{checked}
+use Rattle.nvram.specs.SlotFigures.{figuresAt}
 use Rattle.nvram.specs.Layout.{viewSlots}
 use Rattle.nvram.proofs.TableLaws.{walkFrom, walk-start, walk-fails, walk-holds, walk-unfree, walk-free}
 use Rattle.nvram.proofs.sound.check_slots.Statement.{statement}

@@ -1,8 +1,8 @@
 use mathlib.Core.Path.{_∙_}
 use Rattle.nvram.proofs.SoundLaws.{blank-total, blank-usable, blank-part}
-use borrow.Author.Needs.{needs}
 use Rattle.nvram.proofs.sound.is_blank.Statement.{statement}
 use Rattle.nvram.proofs.sound.is_blank.Tie as tie
+use borrow.Author.Needs.{needs}
 
 returns : tie.Need-returns
 returns c = blank-total _ _ (c .if1 .taken)

@@ -2,9 +2,9 @@ use mathlib.Core.Path.{_≡_}
 use mathlib.Core.Bool.{true}
 use borrow.Author.Tests.{eq-eqb, ne-eqb}
 use Rattle.nvram.specs.Layout.{isEmpty}
-use borrow.Author.Needs.{needs}
 use Rattle.nvram.proofs.sound.is_free.Statement.{statement}
 use Rattle.nvram.proofs.sound.is_free.Tie as tie
+use borrow.Author.Needs.{needs}
 
 is-empty-requires : tie.Need-is-empty-requires
 is-empty-requires c κs = search needs

@@ -1,7 +1,7 @@
-use Rattle.nvram.proofs.CheckedLaws.{checked-sound}
-use borrow.Author.Needs.{needs}
+use Rattle.records.proofs.CheckedLaws.{checked-sound}
 use Rattle.nvram.proofs.sound.is_sound.Statement.{statement}
 use Rattle.nvram.proofs.sound.is_sound.Tie as tie
+use borrow.Author.Needs.{needs}
 
 check-all-requires : tie.Need-check-all-requires
 check-all-requires c κs = search needs

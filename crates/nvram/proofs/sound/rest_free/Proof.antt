@@ -5,7 +5,7 @@ use mathlib.Core.Path.{_≡_, refl, sym, _∙_}
 use mathlib.Core.Bool.{false, true}
 use lib.ListN.{length, drop, length-map}
 use borrow.Author.Tests.{not-true, not-false}
-use Rattle.buffers.proofs.Walk.{test-fails, test-holds}
+use Rattle.buffers.proofs.LoopSteps.{test-fails, test-holds}
 use Rattle.nvram.specs.Layout.{allFree}
 use Rattle.nvram.proofs.SoundLaws.{free-more, free-none}
 use Rattle.nvram.proofs.sound.rest_free.Statement.{statement}

@@ -1,12 +1,12 @@
 use Rattle.bank.specs.Header.{headerOf}
+use Rattle.bank.proofs.HeaderLaws.{head-signature, head-version, head-small, head-big, head-good}
+use Rattle.bank.proofs.FieldLaws.{signed-short, signed-as}
+use Rattle.bank.proofs.header.StoreHeader.parse.Statement.{statement}
+use Rattle.bank.proofs.header.StoreHeader.parse.Tie as tie
 use mathlib.Core.Path.{sym, _∙_}
 use native.Mathlib.Omega.{arith}
 use borrow.Author.Tests.{not-true, not-false}
-use Rattle.bank.proofs.HeaderLaws.{head-signature, head-version, head-small, head-big, head-good}
-use Rattle.bank.proofs.LeafLaws.{signed-short, signed-as}
 use borrow.Author.Needs.{needs}
-use Rattle.bank.proofs.header.StoreHeader.parse.Statement.{statement}
-use Rattle.bank.proofs.header.StoreHeader.parse.Tie as tie
 
 returns : tie.Need-returns
 returns c = sym (head-signature _ (signed-short _ (c .if1 .taken)))

@@ -1,7 +1,7 @@
-use Rattle.bank.proofs.LeafLaws.{header-is}
-use borrow.Author.Needs.{needs}
+use Rattle.bank.proofs.FieldLaws.{header-is}
 use Rattle.bank.proofs.header.StoreHeader.serialize.Statement.{statement}
 use Rattle.bank.proofs.header.StoreHeader.serialize.Tie as tie
+use borrow.Author.Needs.{needs}
 
 le32-requires : tie.Need-le32-requires
 le32-requires c κs = search needs

@@ -1,10 +1,10 @@
 use Prim.Native.Nat.{_-_}
 use Rattle.bank.proofs.PartitionLaws.{parsed-short, parsed-long}
+use Rattle.bank.proofs.partition.Partition.parse.Statement.{statement}
+use Rattle.bank.proofs.partition.Partition.parse.Tie as tie
 use native.Mathlib.Omega.{arith}
 use mathlib.Core.Path.{_∙_}
 use borrow.Author.Needs.{needs}
-use Rattle.bank.proofs.partition.Partition.parse.Statement.{statement}
-use Rattle.bank.proofs.partition.Partition.parse.Tie as tie
 
 returns : tie.Need-returns
 returns c = parsed-short (c .before .before .args .nvr .now) (omega arith)

@@ -1,10 +1,10 @@
 use Rattle.bank.proofs.SerializeLaws.{room-short, slot-is, part-short, valid-long, valid-read, valid-part, part-empty, part-invalid}
+use Rattle.bank.proofs.partition.Partition.serialize.Statement.{statement}
+use Rattle.bank.proofs.partition.Partition.serialize.Tie as tie
 use native.Mathlib.Omega.{arith}
 use mathlib.Core.Path.{refl, sym, _∙_}
 use lib.Seq.{length-take-le}
 use borrow.Author.Needs.{needs}
-use Rattle.bank.proofs.partition.Partition.serialize.Statement.{statement}
-use Rattle.bank.proofs.partition.Partition.serialize.Tie as tie
 
 returns : tie.Need-returns
 returns c = room-short (c .before .before .before .args .nvr .now) (c .before .before .before .args .out .now) (omega arith)

@@ -3,10 +3,10 @@ use Prim.Native.Nat.{ℕ}
 use mathlib.Core.Path.{_≡_, sym, _∙_}
 use mathlib.Core.List.{List}
 use native.Mathlib.Omega.{arith}
-use Rattle.bank.proofs.LeafLaws.{onto-whole, header-short, header-long}
-use borrow.Author.Needs.{needs}
+use Rattle.bank.proofs.FieldLaws.{onto-whole, header-short, header-long}
 use Rattle.bank.proofs.variable.VarHeader.parse.Statement.{statement}
 use Rattle.bank.proofs.variable.VarHeader.parse.Tie as tie
+use borrow.Author.Needs.{needs}
 
 returns : tie.Need-returns
 returns c = sym (header-short _ (c .if1 .taken))

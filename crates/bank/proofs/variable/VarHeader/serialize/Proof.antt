@@ -1,13 +1,13 @@
 use lib.ListN.{length, length-map}
 use mathlib.Core.List.{append-assoc}
 use Rattle.bank.specs.Record.{varHeaderBytes}
-use native.Mathlib.Omega.{arith}
-use Rattle.bank.proofs.LeafLaws.{sized, kept, front, next, written}
+use Rattle.bank.proofs.FieldLaws.{length-36, length-kept, front, next, front-all}
 use Rattle.bank.proofs.NumberLaws.{length-le32}
-use mathlib.Core.Path.{_≡_, refl, _∙_}
-use borrow.Author.Needs.{needs}
 use Rattle.bank.proofs.variable.VarHeader.serialize.Statement.{statement}
 use Rattle.bank.proofs.variable.VarHeader.serialize.Tie as tie
+use native.Mathlib.Omega.{arith}
+use mathlib.Core.Path.{_≡_, refl, _∙_}
+use borrow.Author.Needs.{needs}
 
 cast-out : tie.Need-cast-out
 cast-out c = search needs
@@ -61,7 +61,7 @@ part-out-start-2 : tie.Need-part-out-start-2
 part-out-start-2 c = search needs
 
 part-out-end-2 : tie.Need-part-out-end-2
-part-out-end-2 c = omega (arith, kept 4 _ (sized (c .before .before .before .before .before .before .before .before .before .before .args .self .state)) (c .before .before .copy .ensures) .long)
+part-out-end-2 c = omega (arith, length-kept 4 _ (length-36 (c .before .before .before .before .before .before .before .before .before .before .args .self .state)) (c .before .before .copy .ensures) .long)
 
 copy-requires-2 : tie.Need-copy-requires-2
 copy-requires-2 c κs = search needs
@@ -76,8 +76,8 @@ part-out-start-3 : tie.Need-part-out-start-3
 part-out-start-3 c = search needs
 
 part-out-end-3 : tie.Need-part-out-end-3
-part-out-end-3 c = let a = kept 4 _ (sized (c .before .before .before .before .before .before .before .before .before .before .before .before .before .before .args .self .state)) (c .before .before .before .before .before .before .copy .ensures) in
-    omega (arith, kept 8 _ a (c .before .before .copy2 .ensures) .long)
+part-out-end-3 c = let a = length-kept 4 _ (length-36 (c .before .before .before .before .before .before .before .before .before .before .before .before .before .before .args .self .state)) (c .before .before .before .before .before .before .copy .ensures) in
+    omega (arith, length-kept 8 _ a (c .before .before .copy2 .ensures) .long)
 
 copy-requires-3 : tie.Need-copy-requires-3
 copy-requires-3 c κs = search needs
@@ -92,9 +92,9 @@ part-out-start-4 : tie.Need-part-out-start-4
 part-out-start-4 c = search needs
 
 part-out-end-4 : tie.Need-part-out-end-4
-part-out-end-4 c = let a = kept 4 _ (sized (c .before .before .before .before .before .before .before .before .before .before .before .before .before .before .before .before .before .before .args .self .state)) (c .before .before .before .before .before .before .before .before .before .before .copy .ensures) in
-    let b = kept 8 _ a (c .before .before .before .before .before .before .copy2 .ensures) in
-    omega (arith, kept 12 _ b (c .before .before .copy3 .ensures) .long)
+part-out-end-4 c = let a = length-kept 4 _ (length-36 (c .before .before .before .before .before .before .before .before .before .before .before .before .before .before .before .before .before .before .args .self .state)) (c .before .before .before .before .before .before .before .before .before .before .copy .ensures) in
+    let b = length-kept 8 _ a (c .before .before .before .before .before .before .copy2 .ensures) in
+    omega (arith, length-kept 12 _ b (c .before .before .copy3 .ensures) .long)
 
 copy-requires-4 : tie.Need-copy-requires-4
 copy-requires-4 c κs = search needs
@@ -109,10 +109,10 @@ part-out-start-5 : tie.Need-part-out-start-5
 part-out-start-5 c = search needs
 
 part-out-end-5 : tie.Need-part-out-end-5
-part-out-end-5 c = let a = kept 4 _ (sized (c .before .before .before .before .before .before .before .before .before .before .before .before .before .before .before .before .before .before .before .before .before .before .args .self .state)) (c .before .before .before .before .before .before .before .before .before .before .before .before .before .before .copy .ensures) in
-    let b = kept 8 _ a (c .before .before .before .before .before .before .before .before .before .before .copy2 .ensures) in
-    let d = kept 12 _ b (c .before .before .before .before .before .before .copy3 .ensures) in
-    omega (arith, kept 16 _ d (c .before .before .copy4 .ensures) .long)
+part-out-end-5 c = let a = length-kept 4 _ (length-36 (c .before .before .before .before .before .before .before .before .before .before .before .before .before .before .before .before .before .before .before .before .before .before .args .self .state)) (c .before .before .before .before .before .before .before .before .before .before .before .before .before .before .copy .ensures) in
+    let b = length-kept 8 _ a (c .before .before .before .before .before .before .before .before .before .before .copy2 .ensures) in
+    let d = length-kept 12 _ b (c .before .before .before .before .before .before .copy3 .ensures) in
+    omega (arith, length-kept 16 _ d (c .before .before .copy4 .ensures) .long)
 
 copy-requires-5 : tie.Need-copy-requires-5
 copy-requires-5 c κs = search needs
@@ -128,7 +128,7 @@ returns c = let made = c .before .before .before .before .before .before .before
     let value = next 4 name (made .before .before .le323 .ensures) (length-le32 _) (omega arith) (c .before .before .before .before .before .before .before .before .before .copy3 .ensures) in
     let guid = next {z = self .guid} 16 value refl n (omega arith) (c .before .before .before .before .before .copy4 .ensures) in
     let crc = next 4 guid (made .le324 .ensures) (length-le32 _) (omega arith) (c .before .copy5 .ensures) in
-    written crc ∙ simp append-assoc
+    front-all crc ∙ simp append-assoc
 
 pub serialize-spec : {M : Type 1} → statement M
 serialize-spec =

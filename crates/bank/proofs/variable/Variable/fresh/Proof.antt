@@ -1,7 +1,7 @@
 use Rattle.bank.specs.Answer.{freshHeader}
-use borrow.Author.Needs.{needs}
 use Rattle.bank.proofs.variable.Variable.fresh.Statement.{statement}
 use Rattle.bank.proofs.variable.Variable.fresh.Tie as tie
+use borrow.Author.Needs.{needs}
 
 guid-requires : tie.Need-guid-requires
 guid-requires c κs = search needs

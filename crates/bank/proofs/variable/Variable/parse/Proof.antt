@@ -1,15 +1,15 @@
-use Rattle.bank.proofs.LeafLaws.{step-length, step-name, step-crc, step-next}
 use Prim.Native.Nat.{ℕ}
 use mathlib.Core.Path.{_≡_, sym, ap}
 use mathlib.Core.List.{List}
 use mathlib.Core.Bool.{true, false}
 use lib.ListN.{take}
 use native.Mathlib.Omega.{arith}
+use borrow.Author.Needs.{needs}
 use Rattle.buffers.specs.Bytes.{allBlank}
 use Rattle.bank.specs.Number.{u16At}
 use Rattle.bank.specs.Answer.{stepOf}
+use Rattle.bank.proofs.FieldLaws.{step-length, step-name, step-crc, step-next}
 use Rattle.bank.proofs.WalkLaws.{found-blank, found-start}
-use borrow.Author.Needs.{needs}
 use Rattle.bank.proofs.variable.Variable.parse.Statement.{statement}
 use Rattle.bank.proofs.variable.Variable.parse.Tie as tie
 

@@ -2,9 +2,9 @@ use mathlib.Core.Path.{_≡_}
 use mathlib.Core.Bool.{true, false}
 use Rattle.buffers.specs.Bytes.{eqBytes}
 use Rattle.bank.specs.Record.{typeOf, systemGuid}
-use borrow.Author.Needs.{needs}
 use Rattle.bank.proofs.variable.Variable.typ.Statement.{statement}
 use Rattle.bank.proofs.variable.Variable.typ.Tie as tie
+use borrow.Author.Needs.{needs}
 
 slice-aggregate-same : tie.Need-slice-aggregate-same
 slice-aggregate-same c = search needs

@@ -6,9 +6,9 @@ use Rattle.nvram.specs.declared.state.Kind.{Kind}
 use Rattle.nvram.specs.Ready.{byKind}
 use Rattle.nvram.proofs.ActiveLaws.{active-in}
 use Rattle.nvram.proofs.ReadyLaws.{ready-6, ready-as}
-use borrow.Author.Needs.{needs}
 use Rattle.nvram.proofs.state.Nvram.ready.Statement.{statement}
 use Rattle.nvram.proofs.state.Nvram.ready.Tie as tie
+use borrow.Author.Needs.{needs}
 
 is-sound-requires : tie.Need-is-sound-requires
 is-sound-requires c κs = search needs

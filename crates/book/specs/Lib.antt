@@ -1,0 +1,6 @@
+pub mod Book
+pub mod Edit
+pub mod Opening
+pub mod Commit
+pub mod Call
+pub mod Tally

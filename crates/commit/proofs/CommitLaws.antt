@@ -1,0 +1,181 @@
+-- A commit of the active bank, in the numbers that the code has: a law for each exit.
+use Prim.Native.Nat.{ℕ, _+_, _*_, _-_, _≤_, _<_}
+use mathlib.Core.Path.{_≡_, refl, sym, ap, ap₂, _∙_, subst}
+use mathlib.Core.List.{List, [], _++_, append-assoc}
+use mathlib.Core.Bool.{Bool, true, false, true≢false}
+use mathlib.Core.Option.{Option, none, some}
+use native.Mathlib.Omega.{arith}
+use lib.Dec.{ltb}
+use lib.ListN.{length, getD, take, drop, length-drop}
+use lib.Seq.{take-at, drop-at, length-take-le}
+use borrow.Author.Tests.{lt-ltb, le-ltb}
+use Rattle.crc32.specs.Crc32.{Bytes}
+use Rattle.buffers.proofs.LoopSteps.{tail}
+use Rattle.bank.specs.declared.header.StoreHeader.{StoreHeader}
+use Rattle.bank.specs.declared.header.Head.{Head}
+use Rattle.bank.specs.declared.header.Head.the-variants.{Good, Signature, Version, Size}
+use Rattle.bank.specs.Header.{readHeader, headerBytes}
+use Rattle.bank.specs.Bank.{Bank, Slot, invalid, valid, bankSize, partOf, output}
+use Rattle.bank.specs.Record.{sizes}
+use Rattle.bank.specs.Totals.{total}
+use Rattle.bank.proofs.HeaderLaws.{header-back}
+use Rattle.records.specs.declared.figures.Figures.{Figures}
+use Rattle.records.specs.declared.check.Checked.{Checked}
+use Rattle.records.specs.Figures.{figuresOf}
+use Rattle.records.specs.Checked.{checked, recordsFigures}
+use Rattle.book.specs.Book.{partSize, Book, activeSlot}
+use Rattle.book.specs.Commit.{Judged, refuse, inPlace, move, judge, due, judgeBank}
+use Rattle.book.specs.Call.{commit, committed, stayWith, bySlot, commitAs, commitBank, commitTo, step}
+use Rattle.book.proofs.JudgeLaws.{in-place-fits}
+use Rattle.nvram.specs.declared.state.Kind.the-variants.{Valid}
+use Rattle.nvram.specs.declared.state.Entry.{Entry}
+use Rattle.nvram.specs.declared.state.Nvram.{Nvram}
+use Rattle.nvram.specs.SlotFigures.{slotFigures, activeFigures}
+use Rattle.nvram.specs.Ready.{activeEntry}
+use Rattle.nvram.specs.Contract.{Does}
+use Rattle.nvram.proofs.SlotLaws.{part-is}
+use Rattle.nvram.proofs.CallLaws.{does, by-7, by-valid}
+use Rattle.nvram.proofs.ActiveLaws.{Sound, book, viewed, state-is, work-is, fine, active-is, n-is, entry-is, does-refuse, bank, bank-is, bank-fine, total-is, usable-is}
+use Rattle.nvram.proofs.PlaceLaws.{after, part-here, bank-out}
+use Rattle.commit.specs.declared.Applied.{Applied}
+use Rattle.commit.specs.Applied.{applied}
+use Rattle.commit.specs.Active.{Active, MoveDue, Used, Commits}
+
+-- the figures that the check answers
+pub checked-used : (r : Checked) (o : Option Book) → r ≡ checked (activeFigures true) o → (b : Book) (k : Bank) → o ≡ some b
+    → activeSlot b ≡ valid k → r .used ≡ figuresOf (k .records)
+unfolding checked activeFigures slotFigures recordsFigures
+checked-used r o e b k p q = ap (λ (x : Checked). x .used) (e ∙ ap (checked (activeFigures true)) p) ∙ ap (slotFigures true) q
+
+abbrev pub faulty : Head → Bool
+faulty (Good h) = false
+faulty Signature = true
+faulty Version = true
+faulty Size = true
+
+-- the active part of a sound state whose active slot is Valid
+module _ {s : Nvram} {w : List ℕ} (g : Sound s w) (v : activeEntry s .kind ≡ Valid) where
+  active-low : s .active < s .n
+  active-low = omega (arith, fine g .inside, active-is g, n-is g)
+
+  active-part : drop (s .active * 131072) w ≡ partOf partSize (valid (bank g v)) ++ after g (s .active) active-low
+  active-part =
+      part-here g (s .active) active-low
+      ∙ ap (λ (x : Slot). partOf partSize x ++ after g (s .active) active-low)
+      (ap (λ (i : ℕ). getD (book g .slots) i invalid) (active-is g) ∙ bank-is g v)
+
+  active-head : readHeader (drop (s .active * 131072) w) ≡ Good (bank g v .header)
+  active-head =
+      let f = bank-fine g v .0 in
+      ap readHeader (active-part ∙ ap (λ (l : List ℕ). l ++ after g (s .active) active-low) (part-is (bank g v) (f .records-fine)) ∙ append-assoc (headerBytes (bank g v .header)) _ _)
+      ∙ header-back (bank g v .header) _ (f .header-fine)
+
+  -- so the part does not begin with anything but a header
+  pub no-fault : (x : Head) → x ≡ readHeader (take (length w - s .active * 131072) (drop (s .active * 131072) w)) → faulty x ≡ true → ⊥
+  no-fault x e q =
+      let p : x ≡ Good (bank g v .header) = e ∙ ap readHeader (tail w (s .active * 131072)) ∙ active-head in true≢false (sym q ∙ ap faulty p)
+
+-- the refusals before that
+
+enough : (b : Book) (room : ℕ) → 65536 ≤ room → step b (commit room) ≡ bySlot b (commit room) (commitBank b) (activeSlot b)
+unfolding step commitTo bankSize
+enough b room h = simp (le-ltb room 65536 h)
+
+module _ {s : Nvram} {w : List ℕ} (g : Sound s w) (room : ℕ) where
+  pub does-5 : room < 65536 → Does (commit room) s w (committed 5 none 0 0) [] s w
+  unfolding step commitTo bankSize
+  does-5 h = does-refuse g (commit room) 5 (simp (lt-ltb room 65536 h))
+
+  pub does-7 : 65536 ≤ room → (activeEntry s .kind ≡ Valid → ⊥) → Does (commit room) s w (committed 7 none 0 0) [] s w
+  does-7 h v =
+      does-refuse g (commit room) 7
+      (enough (book g) room h ∙ by-7 (book g) (commit room) _ (activeSlot (book g)) (λ e. v (ap (λ (x : Entry). x .kind) (entry-is g) ∙ e)))
+
+-- what is known when a commit of the active bank begins
+pub record ActiveKnown (s : Nvram) (w : List ℕ) (h : StoreHeader) : Type 0 where
+  pub bytes : Bytes w
+  pub long : length (s .banks) ≡ 16
+  pub active : Active s w h
+
+module _ {s : Nvram} {w : List ℕ} {h : StoreHeader} (a : ActiveKnown s w h) where
+  pub sound : Sound s w
+  sound = record { bytes = a .bytes; long = a .long; ok = a .active .sound }
+
+  abbrev b : Book
+  b = book sound
+
+  abbrev pub here : Bank
+  here = bank sound (a .active .kind)
+
+  pub header-is : h ≡ here .header
+  header-is = let e : Good h ≡ Good (here .header) = sym (a .active .head) ∙ active-head sound (a .active .kind) in cc
+
+  pub size-is : h .size ≡ here .header .size
+  size-is = ap (λ (x : StoreHeader). x .size) header-is
+
+  pub size-high : h .size ≤ 65536
+  size-high = omega (arith, size-is, bank-fine sound (a .active .kind) .0 .header-fine .size-high)
+
+  -- what the code judges is the active bank
+  pub judged : (f : Figures) (d : Bool) (j : Judged) → Used s w f → d ≡ ltb (activeEntry s .usable) (activeEntry s .total)
+      → j ≡ judge h (f .system) (f .common) d
+      → j ≡ judgeBank here
+  unfolding judgeBank due total
+  judged f d j u q k =
+      let e = u b here (viewed sound) (bank-is sound (a .active .kind)) in
+      let r : d ≡ ltb (here .usable) (24 + sizes (here .records)) = q ∙ ap₂ ltb (usable-is sound (a .active .kind)) (total-is sound (a .active .kind)) in
+      k ∙ (λ i. judge (header-is i) (e i .system) (e i .common) (r i))
+
+  pub move-due : move ≡ judgeBank here → MoveDue s w
+  move-due e c k p q =
+      let x : some c ≡ some b = sym p ∙ viewed sound in
+      let y : c ≡ b = cc in
+      let z : valid k ≡ valid here = sym q ∙ ap activeSlot y ∙ bank-is sound (a .active .kind) in
+      let u : k ≡ here = cc in
+      ap judgeBank u ∙ sym e
+
+  module _ (room : ℕ) (wide : 65536 ≤ room) where
+    pub commit-step : step b (commit room) ≡ commitAs b here (judgeBank here)
+    unfolding commitBank
+    commit-step = enough b room wide ∙ by-valid b (commit room) (commitBank b) here (bank-is sound (a .active .kind))
+
+    pub refuses : (n : ℕ) → refuse n ≡ judgeBank here → Does (commit room) s w (committed n none 0 0) [] s w
+    unfolding commitAs
+    refuses n e = does-refuse sound (commit room) n (commit-step ∙ ap (commitAs b here) (sym e))
+
+    pub stays : inPlace ≡ judgeBank here → Does (commit room) s w (committed 0 none (s .active * 65536) (h .size)) (take (h .size) (drop (s .active * 131072) w)) s w
+    unfolding commitAs bankSize
+    stays e =
+        let f = bank-fine sound (a .active .kind) .0 in
+        let r : total here ≤ here .header .size = omega (arith, in-place-fits here (sym e), f .usable-high) in
+        does (commit room) s w b (stayWith b (committed 0 none (b .active * bankSize) (here .header .size)) (output here)) _ _ s w (viewed sound) (commit-step ∙ ap (commitAs b here) (sym e))
+        (record {
+          answer = ap₂ (λ (i n : ℕ). committed 0 none (i * 65536) n) (active-is sound) size-is;
+          out = ap₂ (λ (n : ℕ) (l : List ℕ). take n l) size-is (active-part sound (a .active .kind)) ∙ bank-out here _ f r;
+          state = state-is sound;
+          work = work-is sound;
+        })
+
+-- what the code answers, by what it returns
+module _ {s s′ : Nvram} {w w′ : List ℕ} (o : List ℕ) (r : Applied) (e : Option ℕ) where
+  pub quiet : (n : ℕ) → (applied r ≡ committed n e 0 0) × (r .length ≡ 0) × (r .state ≡ s′)
+      → Does (commit (length o)) s w (committed n e 0 0) [] s′ w′ → Commits s w o r w′ o
+  quiet n p d =
+      (record { answer = p .0 ∙ d .answer; out = ap (λ (i : ℕ). take i o) (p .1) ∙ d .out; state = p .2 ∙ d .state; work = d .work }, refl)
+
+  pub wrote : (o′ : List ℕ) (n : ℕ) → n ≤ 65536 → s′ .active * 131072 + 131072 ≤ length w′
+      → (applied r ≡ committed 0 e (s′ .active * 65536) n) × (r .length ≡ n) × (r .state ≡ s′) × (o′ ≡ take n (drop (s′ .active * 131072) w′) ++ drop n o)
+      → Does (commit (length o)) s w (committed 0 e (s′ .active * 65536) n) (take n (drop (s′ .active * 131072) w′)) s′ w′
+      → Commits s w o r w′ o′
+  wrote o′ n h k p d =
+      let x = take n (drop (s′ .active * 131072) w′) in
+      let l : length x ≡ n = length-take-le n (drop (s′ .active * 131072) w′) (omega (arith, length-drop (s′ .active * 131072) w′)) in
+      let q : drop n o′ ≡ drop n o = ap (drop n) (p .3) ∙ drop-at x (drop n o) n l in (
+        record {
+          answer = p .0 ∙ d .answer;
+          out = (λ j. take (p .1 j) (p .3 j)) ∙ take-at x (drop n o) n l ∙ d .out;
+          state = p .2 ∙ d .state;
+          work = d .work;
+        },
+        subst (λ (i : ℕ). drop i o′ ≡ drop i o) (sym (p .1)) q,
+      )

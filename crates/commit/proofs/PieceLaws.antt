@@ -1,0 +1,86 @@
+-- What a commit's small functions answer: the judgement of a bank, the erase request, the tally, and what is written to the output.
+use Prim.Native.Nat.{ℕ, _+_, _*_, _-_, _≤_, _<_}
+use mathlib.Core.Path.{_≡_, refl, sym, ap, _∙_}
+use mathlib.Core.List.{List, _++_}
+use mathlib.Core.Logic.{_⊎_, inl, inr, _≢_}
+use mathlib.Core.Bool.{Bool, true, false}
+use mathlib.Core.Option.{Option, none, some}
+use native.Mathlib.Omega.{arith}
+use native.Mathlib.Nat.{min-eq-left, min-eq-right}
+use lib.ListN.{length, set, take, drop, length-drop}
+use lib.Seq.{length-take-le}
+use borrow.Author.Tests.{lt-ltb, le-ltb, eq-eqb, ne-eqb}
+use Rattle.buffers.specs.Bytes.{onto}
+use Rattle.buffers.proofs.Laws.{onto-fits}
+use Rattle.bank.specs.declared.header.StoreHeader.{StoreHeader}
+use Rattle.bank.specs.Bank.{Slot, empty, invalid, valid, bankSize}
+use Rattle.book.specs.Commit.{refuse, inPlace, move, judge, request}
+use Rattle.book.specs.Tally.{Tally, counted}
+use Rattle.nvram.specs.declared.state.Kind.{Kind}
+use Rattle.nvram.specs.declared.state.Kind.the-variants.{Empty, Invalid, Valid}
+use Rattle.nvram.specs.declared.state.Nvram.{Nvram}
+use Rattle.nvram.specs.Part.{entry, entryOf}
+use Rattle.commit.specs.declared.Erase.{Erase}
+use Rattle.commit.specs.declared.Erase.the-variants.{At}
+use Rattle.commit.specs.Applied.{requested, movedState}
+
+-- the judgement, test by test
+module _ (h : StoreHeader) (system common : ℕ) (d : Bool) where
+  pub judge-9 : h .«system_size» < system → refuse 9 ≡ judge h system common d
+  unfolding judge
+  judge-9 p = simp (lt-ltb _ _ p)
+
+  module _ (p : system ≤ h .«system_size») where
+    pub judge-10 : h .«common_size» < common → refuse 10 ≡ judge h system common d
+    unfolding judge
+    judge-10 q = simp (le-ltb _ _ p, lt-ltb _ _ q)
+
+    module _ (q : common ≤ h .«common_size») where
+      pub judge-stays : d ≡ false → inPlace ≡ judge h system common d
+      unfolding judge
+      judge-stays r = simp (le-ltb _ _ p, le-ltb _ _ q, r)
+
+      pub judge-11 : d ≡ true → h .generation ≡ 4294967295 → refuse 11 ≡ judge h system common d
+      unfolding judge
+      judge-11 r g = simp (le-ltb _ _ p, le-ltb _ _ q, r, eq-eqb _ _ g)
+
+      pub judge-move : d ≡ true → h .generation ≢ 4294967295 → move ≡ judge h system common d
+      unfolding judge
+      judge-move r g = simp (le-ltb _ _ p, le-ltb _ _ q, r, ne-eqb _ _ g)
+
+-- the erase request, by the slot's kind
+module _ {x : Kind} (i : ℕ) where
+  pub request-none : x ≡ Empty → (k : Slot) → x ≡ entryOf k .kind → none ≡ request k i
+  unfolding request entryOf
+  request-none e empty p = refl
+  request-none e invalid p = let z : _≡_ {A = ℕ} 0 1 = cc in absurd (omega arith)
+  request-none e (valid k) p = let z : _≡_ {A = ℕ} 0 1 = cc in absurd (omega arith)
+
+  pub request-some : (x ≡ Invalid) ⊎ (x ≡ Valid) → (k : Slot) → x ≡ entryOf k .kind → some (i * 65536) ≡ request k i
+  unfolding request entryOf bankSize
+  request-some (inl e) empty p = let z : _≡_ {A = ℕ} 0 1 = cc in absurd (omega arith)
+  request-some (inr e) empty p = let z : _≡_ {A = ℕ} 0 1 = cc in absurd (omega arith)
+  request-some e invalid p = refl
+  request-some e (valid k) p = refl
+
+-- one more erase request
+module _ (t : Tally) {offset : ℕ} {e : Erase} (at : e ≡ At offset) where
+  pub tally-full : t ≡ 4294967295 → t ≡ counted (requested e) t
+  tally-full h = h ∙ sym (min-eq-right (omega arith)) ∙ ap (λ (x : Erase). counted (requested x) t) (sym at)
+
+  pub tally-more : t + 1 < 4294967296 → t + 1 ≡ counted (requested e) t
+  tally-more h = sym (min-eq-left (omega arith)) ∙ ap (λ (x : Erase). counted (requested x) t) (sym at)
+
+pub moved-is : (s : Nvram) (i total size : ℕ) (t : Tally) (e : Option ℕ) → t ≡ counted e (s .tally)
+    → record { n = s .n; active = i; tally = t; banks = set (s .banks) i (entry Valid total size) } ≡ movedState s i total size e
+unfolding movedState
+moved-is s i total size t e p = λ j. record { n = s .n; active = i; tally = p j; banks = set (s .banks) i (entry Valid total size) }
+
+-- n bytes of w from a place on, over the front of an output
+pub written : (a n : ℕ) (w o y : List ℕ) → a + n ≤ length w → n ≤ length o → y ≡ onto (take (a + n - a) (drop a w)) o
+    → y ≡ take n (drop a w) ++ drop n o
+written a n w o y h k e =
+    let l : length (take n (drop a w)) ≡ n = length-take-le n (drop a w) (omega (arith, length-drop a w)) in
+    let m : a + n - a ≡ n = omega arith in
+    e ∙ ap (λ (i : ℕ). onto (take i (drop a w)) o) m ∙ onto-fits (take n (drop a w)) o (omega arith)
+    ∙ ap (λ (i : ℕ). take n (drop a w) ++ drop i o) l

@@ -1,0 +1,225 @@
+// The commit: 01, 'A commit, from the entry down'.
+use bank::Head;
+use bank::StoreHeader;
+use bank::Variable;
+use moving::move_bank;
+use nvram::Entry;
+use nvram::Kind;
+use nvram::Nvram;
+use nvram::Tally;
+use nvram::check;
+use records::Figures;
+ghost use mathlib.Core.Path.{_≡_};
+ghost use mathlib.Core.List.{_++_};
+ghost use Prim.Native.Nat.{_+_, _*_, _≤_, _<_};
+ghost use lib.ListN.{length, take, drop};
+ghost use Rattle.bank.specs.Bank.{Slot};
+ghost use Rattle.book.specs.Commit.{judge as judgeOf, raised as raisedOf, request as requestOf};
+ghost use Rattle.book.specs.Call.{committed};
+ghost use Rattle.book.specs.Tally.{counted};
+ghost use Rattle.nvram.specs.Ready.{activeEntry};
+ghost use Rattle.nvram.specs.Part.{entryOf};
+ghost use Rattle.commit.specs.Applied.{applied, verdict, requested, movedState};
+ghost use Rattle.commit.specs.Active.{Active, MoveDue, Used, Commits};
+
+// Nothing is to be erased, or the bank at an offset.
+pub enum Erase {
+    Nothing,
+    At(usize),
+}
+
+// A refusal's number, or 0; the erase request; the write's offset and its length in the output; and the state after.
+pub struct Applied {
+    pub number: u32,
+    pub erase: Erase,
+    pub offset: usize,
+    pub length: usize,
+    pub state: Nvram,
+}
+
+// Refused by a number, written where it is, or moved.
+enum Judged {
+    Refuse(u32),
+    InPlace,
+    Move,
+}
+
+fn refused(state: Nvram, number: u32, erase: Erase) -> Applied
+    ensures { λ r. ⌜ (applied r ≡ committed number (requested erase) 0 0) × (r .length ≡ 0) × (r .state ≡ state) ⌝ }
+{
+    Applied {
+        number,
+        erase,
+        offset: 0,
+        length: 0,
+        state,
+    }
+}
+
+// By a bank's header, its figures, and whether a move is due.
+fn judge(header: StoreHeader, used: Figures, due: bool) -> Judged
+    ensures { λ r. ⌜ verdict r ≡ judgeOf header (used .system) (used .common) due ⌝ }
+{
+    if (header.system_size as usize) < used.system {
+        return Judged::Refuse(9);
+    }
+    if (header.common_size as usize) < used.common {
+        return Judged::Refuse(10);
+    }
+    if !due {
+        return Judged::InPlace;
+    }
+    if header.generation == 4294967295 {
+        return Judged::Refuse(11);
+    }
+    Judged::Move
+}
+
+// The header of a move's new bank.
+fn raised(header: StoreHeader) -> StoreHeader
+    requires { ⌜ header .generation < 4294967295 ⌝ }
+    ensures { λ r. ⌜ r ≡ raisedOf header ⌝ }
+{
+    let mut next = header;
+    next.generation = header.generation + 1;
+    next
+}
+
+// Bank i is to be erased unless its slot is Empty.
+fn request(kind: Kind, i: usize) -> Erase
+    requires { ⌜ i < 16 ⌝ }
+    ensures { λ r. ⌜ ((k : Slot) → kind ≡ entryOf k .kind → requested r ≡ requestOf k i) ⌝ }
+{
+    match kind {
+        Kind::Empty => Erase::Nothing,
+        Kind::Invalid => Erase::At(i * Nvram::BANK),
+        Kind::Valid => Erase::At(i * Nvram::BANK),
+    }
+}
+
+// The tally stops at its greatest number.
+fn tally(tally: Tally, erase: Erase) -> Tally
+    ensures { λ r. ⌜ r ≡ counted (requested erase) tally ⌝ }
+{
+    match erase {
+        Erase::Nothing => tally,
+        Erase::At(_) => {
+            if tally == 4294967295 {
+                tally
+            } else {
+                tally + 1
+            }
+        }
+    }
+}
+
+// The state with a bank of this total and size in slot i, which becomes active.
+fn moved(state: Nvram, i: usize, total: usize, size: u32, erase: Erase) -> Nvram
+    requires { ⌜ (i < 16) × (total ≤ 131072) ⌝ }
+    ensures { λ r. ⌜ r ≡ movedState state i total size (requested erase) ⌝ }
+{
+    let mut next = state;
+    next.active = i as u32;
+    next.tally = tally(state.tally, erase);
+    next.banks[i] = Entry {
+        kind: Kind::Valid,
+        total: total as u32,
+        usable: size,
+    };
+    next
+}
+
+// The active bank's first bytes, as many as its size, to the output.
+fn write(state: Nvram, work: &[u8], output: &mut [u8], size: usize, erase: Erase) -> Applied
+    requires { ⌜ (state .active < 16) × (size ≤ 65536) × (state .active * 131072 + 131072 ≤ length (now work)) × (65536 ≤ length (now output)) ⌝ }
+    ensures { λ r. ⌜ (applied r ≡ committed 0 (requested erase) (state .active * 65536) size) × (r .length ≡ size) × (r .state ≡ state) × (now (output .exit) ≡ take size (drop (state .active * 131072) (now (work .entry))) ++ drop size (now (output .entry))) ⌝ }
+{
+    let i = state.active as usize;
+    let part = i * Nvram::PART;
+    let end = part + size;
+    buffers::copy(&work[part..end], output);
+    Applied {
+        number: 0,
+        erase,
+        offset: i * Nvram::BANK,
+        length: size,
+        state,
+    }
+}
+
+// A commit that moves: the records stand from one place of the work area up to another.
+fn move_on(
+    state: Nvram,
+    work: &mut [u8],
+    output: &mut [u8],
+    from: usize,
+    to: usize,
+    header: StoreHeader,
+) -> Applied
+    requires { ⌜ Active state (now work) header × MoveDue state (now work) × (from ≡ state .active * 131072 + 24) × (to ≡ state .active * 131072 + activeEntry state .total) × (65536 ≤ length (now output)) ⌝ }
+    ensures { λ r. ⌜ Commits state (now (work .entry)) (now (output .entry)) r (now (work .exit)) (now (output .exit)) ⌝ }
+{
+    let next = (state.active as usize + 1) % state.n as usize;
+    let entry = state.banks[next];
+    let kind = entry.kind;
+    let erase = request(kind, next);
+    let total = move_bank(work, from, to, next * Nvram::PART, raised(header));
+    let after = moved(state, next, total, header.size, erase);
+    if (header.size as usize) < total {
+        return refused(after, 12, erase);
+    }
+    write(after, work, output, header.size as usize, erase)
+}
+
+// A commit of the active bank, which is Valid and begins with this header.
+fn commit_active(
+    state: Nvram,
+    work: &mut [u8],
+    output: &mut [u8],
+    header: StoreHeader,
+    used: Figures,
+) -> Applied
+    requires { ⌜ Active state (now work) header × Used state (now work) used × (65536 ≤ length (now output)) ⌝ }
+    ensures { λ r. ⌜ Commits state (now (work .entry)) (now (output .entry)) r (now (work .exit)) (now (output .exit)) ⌝ }
+{
+    let i = state.active as usize;
+    let entry = state.banks[i];
+    let part = i * Nvram::PART;
+    let from = part + Variable::STORE_HEADER_SIZE;
+    let to = part + entry.total as usize;
+    match judge(header, used, entry.usable < entry.total) {
+        Judged::Refuse(number) => refused(state, number, Erase::Nothing),
+        Judged::InPlace => write(state, work, output, header.size as usize, Erase::Nothing),
+        Judged::Move => move_on(state, work, output, from, to, header),
+    }
+}
+
+// 6, 5, 7, then the active bank's own refusals. Of a Valid slot of a sound state the part begins with a header.
+pub fn apply(state: Nvram, work: &mut [u8], output: &mut [u8]) -> Applied
+    ensures { λ r. ⌜ Commits state (now (work .entry)) (now (output .entry)) r (now (work .exit)) (now (output .exit)) ⌝ }
+{
+    let checked = check(state, work);
+    if !checked.sound {
+        return refused(state, 6, Erase::Nothing);
+    }
+    if output.len() < Nvram::BANK {
+        return refused(state, 5, Erase::Nothing);
+    }
+    let used = checked.used;
+    let i = state.active as usize;
+    let entry = state.banks[i];
+    let kind = entry.kind;
+    match kind {
+        Kind::Empty => refused(state, 7, Erase::Nothing),
+        Kind::Invalid => refused(state, 7, Erase::Nothing),
+        Kind::Valid => {
+            let part = i * Nvram::PART;
+            match StoreHeader::parse(&work[part..]) {
+                Head::Good(header) => commit_active(state, work, output, header, used),
+                Head::Signature => refused(state, 6, Erase::Nothing),
+                Head::Version => refused(state, 6, Erase::Nothing),
+                Head::Size => refused(state, 6, Erase::Nothing),
+            }
+        }
+    }
+}

@@ -1,0 +1,207 @@
+-- A run through the exports meets demand 3: the state that its bytes hold after each call is the definition's.
+use Prim.Native.Nat.{ℕ, zero, suc, _-_, _<_}
+use mathlib.Core.Path.{_≡_, refl, sym, ap, _∙_, subst}
+use mathlib.Core.List.{List, [], _∷_, _++_, map}
+use mathlib.Core.Logic.{_≢_}
+use mathlib.Core.Bool.{Bool, true, false, cond}
+use mathlib.Core.Option.{Option, none, some}
+use native.Mathlib.Omega.{arith}
+use lib.ListN.{length, replicate, length-append, length-map, length-replicate}
+use lib.Dec.{leb}
+use Rattle.bank.specs.declared.variable.VarType.{VarType}
+use Rattle.bank.specs.Bank.{Slot, empty, invalid, valid}
+use Rattle.book.specs.Book.{Book, FineBook, FineSlots}
+use Rattle.book.specs.Opening.{Opened, opening}
+use Rattle.book.specs.Call.{Call, edit, lookup, fetch, commit, wholeImage, ByteCall, Answer, number, erase, Outcome, step}
+use Rattle.book.specs.Tally.{Tally, counted, tallied}
+use Rattle.book.proofs.Did.{refuses, reads, Did, did}
+use Rattle.book.proofs.BookLaws.{part-size}
+use Rattle.book.proofs.StepLaws.{step-fine}
+use Rattle.nvram.specs.declared.state.Kind.the-variants.{Empty}
+use Rattle.nvram.specs.declared.state.Entry.{Entry}
+use Rattle.nvram.specs.declared.state.Nvram.{Nvram}
+use Rattle.nvram.specs.Part.{entry, entryOf}
+use Rattle.nvram.specs.Layout.{layTable, layState, view}
+use Rattle.nvram.specs.Contract.{onBook, call, Does, Begun, begun}
+use Rattle.nvram.proofs.KeepLaws.{Kept, keeps}
+use Rattle.run.specs.Run as run
+use Rattle.run.proofs.EachLaws.{each-none, each-more}
+use Rattle.run.proofs.Start.{starts}
+use Rattle.run.proofs.Demand.{demand-3}
+use Rattle.state_bytes.specs.State.{stateSize, stored, readState, FineEntries, FineState}
+use Rattle.state_bytes.proofs.StateLaws.{stored-back}
+use Rattle.exports.specs.Store.{BytesAfter, onState, exported, Tells, Calls, Start, stated, start, ExportOpens}
+use Rattle.exports.specs.ExportRun.{ExportEvent, ExportRun, refusedBy, ExportNever, Same, AllSame, ExportClaim}
+
+-- what is laid out of a book fits into the state's bytes
+
+free-fine : (n : ℕ) → FineEntries (replicate n (entry Empty 0 0))
+free-fine zero = tt
+free-fine (suc n) = ((omega arith, omega arith), free-fine n)
+
+entries-fine : (ss : List Slot) (es : List Entry) → FineSlots ss → FineEntries es → FineEntries (map entryOf ss ++ es)
+unfolding entryOf
+entries-fine [] es f g = g
+entries-fine (empty ∷ ss) es f g = ((omega arith, omega arith), entries-fine ss es (f .1) g)
+entries-fine (invalid ∷ ss) es f g = ((omega arith, omega arith), entries-fine ss es (f .1) g)
+entries-fine (valid b ∷ ss) es f g =
+    ((omega (arith, f .0 .1, part-size), omega (arith, f .0 .0 .usable-high, f .0 .0 .header-fine .size-high)), entries-fine ss es (f .1) g)
+
+laid-fine : (b : Book) (tally : Tally) → FineBook b → tally < 4294967296 → FineState (layState b tally)
+unfolding layTable
+laid-fine b tally f h =
+    record {
+      n-fits = omega (arith, f .high);
+      active-fits = omega (arith, f .inside, f .high);
+      tally-fits = h;
+      banks-long =
+          length-append (map entryOf (b .slots)) (replicate (16 - length (b .slots)) (entry Empty 0 0))
+          ∙ omega (arith, length-map (b .slots) entryOf, length-replicate (16 - length (b .slots)) (entry Empty 0 0), f .long, f .high);
+      banks-fine = entries-fine (b .slots) (replicate (16 - length (b .slots)) (entry Empty 0 0)) (f .slots-fine) (free-fine (16 - length (b .slots)));
+    }
+
+counted-fits : (o : Option ℕ) (t : Tally) → t < 4294967296 → counted o t < 4294967296
+counted-fits none t h = h
+counted-fits (some offset) t h = omega arith
+
+tallied-fits : (c : Call) (a : Answer) (t : Tally) → t < 4294967296 → tallied c a t < 4294967296
+tallied-fits (edit e) a t h = h
+tallied-fits (lookup key typ) a t h = h
+tallied-fits (fetch key typ) a t h = h
+tallied-fits (commit room) a t h = counted-fits (erase a) t h
+tallied-fits (wholeImage room) a t h = h
+
+-- the bytes hold a state, and the state a book
+record StateAt (bs w : List ℕ) (s : Nvram) : Type 0 where
+  read : readState bs ≡ some s
+  book : Book
+  viewed : view s w ≡ some book
+  fine : FineBook book
+  tally : s .tally < 4294967296
+
+record Followed (s : Nvram) (w : List ℕ) (es : List ExportEvent) : Type 0 where
+  events : List run.Event
+  runs : run.Run s w events
+  same : AllSame es events
+  never : ExportNever 12 es → (b : Book) → run.Never 12 (run.pages b events)
+
+-- fetched bytes have no number
+fetch-number : (b : Book) (key : List ℕ) (typ : VarType) (o : Outcome) → Did b (fetch key typ) o → number (o .answer) ≡ 0
+fetch-number b key typ o (refuses k n) = refl
+fetch-number b key typ o (reads a x r) = ap number r
+
+not-12 : (b : Book) (c : Call) (x o : List ℕ) (r : ℕ) (q o′ : List ℕ) → Tells c (step b c .answer) x o r q o′ → refusedBy c r ≢ 12
+    → number (step b c .answer) ≢ 12
+not-12 b (edit e) x o r q o′ t h p = h (t .0 ∙ p)
+not-12 b (lookup key typ) x o r q o′ t h p = h (t .0 ∙ p)
+not-12 b (fetch key typ) x o r q o′ t h p = absurd (omega (arith, fetch-number b key typ (step b (fetch key typ)) (did b (fetch key typ))))
+not-12 b (commit room) x o r q o′ t h p = h (t .returned ∙ p)
+not-12 b (wholeImage room) x o r q o′ t h p = h (t .returned ∙ p)
+
+module _ (bs w : List ℕ) (s : Nvram) (a : StateAt bs w s) (e : ExportEvent) (y : ByteCall (e .call))
+    (d : Calls (e .call) bs w (e .lent) (e .returned) (e .fields) (e .state) (e .work) (e .output)) where
+  abbrev c : Call
+  c = e .call
+
+  after : exported c bs w ≡ onState (some s) c bs w
+  unfolding exported
+  after = ap (λ (o : Option Nvram). onState o c bs w) (a .read)
+
+  event : run.Event
+  event = record { call = c; answer = call c s w .answer; out = call c s w .out; state = call c s w .state; work = e .work }
+
+  does : Does c s w (event .answer) (event .out) (event .state) (e .work)
+  unfolding onState event
+  does = record { answer = refl; out = refl; state = refl; work = d .work ∙ ap (λ (x : BytesAfter). x .work) after }
+
+  kept : Kept c (a .book) s (event .answer) (event .out) (event .state) (e .work)
+  kept = keeps c s w (a .book) (event .answer) (event .out) (event .state) (e .work) y (a .fine) (a .viewed) does
+
+  laid : event .state ≡ layState (step (a .book) c .laid) (tallied c (step (a .book) c .answer) (s .tally))
+  unfolding event call onBook
+  laid = ap (λ (o : Option Book). onBook o c s w .state) (a .viewed)
+
+  state-read : readState (e .state) ≡ some (event .state)
+  unfolding onState event
+  state-read =
+      ap readState (d .state ∙ ap (λ (x : BytesAfter). x .state) after)
+      ∙ stored-back (call c s w .state) bs
+      (subst FineState (sym laid)
+      (laid-fine (step (a .book) c .laid) (tallied c (step (a .book) c .answer) (s .tally)) (step-fine (a .book) c y (a .fine))
+      (tallied-fits c (step (a .book) c .answer) (s .tally) (a .tally))))
+
+  next : StateAt (e .state) (e .work) (event .state)
+  next =
+      record {
+        read = state-read;
+        book = step (a .book) c .laid;
+        viewed = kept .viewed;
+        fine = step-fine (a .book) c y (a .fine);
+        tally = subst (λ (n : ℕ). n < 4294967296) (sym (kept .tally)) (tallied-fits c (event .answer) (s .tally) (a .tally));
+      }
+
+  abbrev Told : BytesAfter → Type 0
+  Told x = Tells c (x .answer) (x .out) (e .lent) (e .returned) (e .fields) (e .output)
+
+  same : Same e event
+  unfolding onState event
+  same = record { call = refl; tells = subst Told after (d .tells); state = state-read; work = refl }
+
+  never-12 : refusedBy c (e .returned) ≢ 12 → number (event .answer) ≢ 12
+  never-12 h p =
+      not-12 (a .book) c (event .out) (e .lent) (e .returned) (e .fields) (e .output)
+      (subst (λ (x : Answer). Tells c x (event .out) (e .lent) (e .returned) (e .fields) (e .output)) (kept .answer) (same .tells)) h (sym (ap number (kept .answer)) ∙ p)
+
+follow : (bs w : List ℕ) (s : Nvram) (es : List ExportEvent) → StateAt bs w s → ExportRun bs w es → Followed s w es
+unfolding event run.pages
+follow bs w s [] a r = record { events = []; runs = tt; same = tt; never = λ h b. each-none _ }
+follow bs w s (e ∷ es) a r =
+    let y = r .0 in
+    let d = r .1 in
+    let m = follow (e .state) (e .work) (event bs w s a e y d .state) es (next bs w s a e y d) (r .2) in
+    record {
+      events = event bs w s a e y d ∷ m .events;
+      runs = (y, does bs w s a e y d, m .runs);
+      same = (same bs w s a e y d, m .same);
+      never = λ h b. each-more _ _ _ (never-12 bs w s a e y d (h .0)) (m .never (h .1) (step b (e .call) .after));
+    }
+
+-- an opening that is accepted had bytes enough for the state
+begins : (image bs w bs′ w′ : List ℕ) → ExportOpens image bs w 0 bs′ w′
+    → (begun (opening image (length w)) w .number ≡ 0) × (bs′ ≡ stored (begun (opening image (length w)) w .state) bs) × (w′ ≡ begun (opening image (length w)) w .work)
+unfolding start
+begins image bs w bs′ w′ o = go (leb stateSize (length bs)) (o .number) (o .state) (o .work)
+  where
+    x : Begun
+    x = begun (opening image (length w)) w
+
+    six : Start
+    six = record { number = 6; state = bs; work = w }
+
+    go : (t : Bool) → 0 ≡ cond t (stated x bs) six .number → bs′ ≡ cond t (stated x bs) six .state → w′ ≡ cond t (stated x bs) six .work
+        → (x .number ≡ 0) × (bs′ ≡ stored (x .state) bs) × (w′ ≡ x .work)
+    go true n s v = (sym n, s, v)
+    go false n s v = absurd (omega arith)
+
+pub exported-3 : ExportClaim
+unfolding begun
+exported-3 image bs w bs′ w′ es y o r h =
+    let x = begun (opening image (length w)) w in
+    let b = begins image bs w bs′ w′ o in
+    let opens : run.Opens image w (x .state) w′ = record { bytes = y; accepted = b .0; state = refl; left = b .2 } in
+    let t = starts image w (x .state) w′ opens in
+    let s : x .state ≡ layState (run.openedBook image) 0 = ap (λ (z : Opened). begun z w .state) (t .opens) in
+    let read : readState bs′ ≡ some (x .state) =
+    ap readState (b .1) ∙ stored-back (x .state) bs (subst FineState (sym s) (laid-fine (run.openedBook image) 0 (t .fine) (omega arith))) in
+    let a : StateAt bs′ w′ (x .state) =
+    record { read = read; book = run.openedBook image; viewed = t .viewed; fine = t .fine; tally = omega (arith, t .tally) } in
+    let m = follow bs′ w′ (x .state) es a r in
+    record {
+      state = x .state;
+      read = read;
+      events = m .events;
+      opens = opens;
+      runs = m .runs;
+      same = m .same;
+      demand = demand-3 image w (x .state) w′ (m .events) opens (m .runs) (m .never h (run.openedBook image));
+    }

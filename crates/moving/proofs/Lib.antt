@@ -1,0 +1,3 @@
+pub mod CopyLaws
+pub mod LiveLaws
+pub mod MoveLaws

@@ -1,9 +1,0 @@
-use mathlib.Core.Path.{refl}
-use Rattle.nvram.proofs.opening.Best.is_older.Statement.{statement}
-use Rattle.nvram.proofs.opening.Best.is_older.Tie as tie
-
-returns : tie.Need-returns
-returns c = refl
-
-pub is-older-spec : {M : Type 1} → statement M
-is-older-spec = tie.close (tie.spec returns)

@@ -1,0 +1,5 @@
+pub mod View
+pub mod Match
+pub mod Figures
+pub mod Checked
+pub mod Records

@@ -1,0 +1,58 @@
+// Live records in sum, by section: 01, 'A commit, from the entry down'.
+use bank::Variable;
+ghost use mathlib.Core.Path.{_≡_};
+ghost use mathlib.Core.Bool.{cond};
+ghost use Prim.Native.Nat.{_+_, _≤_, _<_};
+ghost use lib.ListN.{length};
+ghost use Rattle.bank.specs.Record.{recordOf};
+ghost use Rattle.records.specs.Figures.{noFigures, figuresBy, plus};
+
+pub struct Figures {
+    pub system: usize,
+    pub common: usize,
+}
+
+// n where the test holds, else 0.
+fn count_if(test: bool, n: usize) -> usize
+    ensures { λ r. ⌜ (r ≡ cond test n 0) × (r ≤ n) ⌝ }
+{
+    if test { n } else { 0 }
+}
+
+impl Figures {
+    pub fn none() -> Figures
+        ensures { λ r. ⌜ r ≡ noFigures ⌝ }
+    {
+        Figures {
+            system: 0,
+            common: 0,
+        }
+    }
+
+    // With the record of n bytes that begins s, if it is to be counted.
+    pub fn count(self, counting: bool, s: &[u8], n: usize) -> Figures
+        requires { ⌜ (36 ≤ length (now s)) × (self .system + n < 18446744073709551616) × (self .common + n < 18446744073709551616) ⌝ }
+        ensures { λ r. ⌜ r ≡ cond counting (plus self (figuresBy (recordOf (now (s .entry))) n)) self ⌝ }
+    {
+        if !counting {
+            return self;
+        }
+        if s[2] != Variable::ADDED {
+            return self;
+        }
+        let system = Variable::SYSTEM_GUID;
+        let common = Variable::COMMON_GUID;
+        let guid = &s[16..32];
+        Figures {
+            system: self.system + count_if(buffers::same(guid, &system), n),
+            common: self.common + count_if(buffers::same(guid, &common), n),
+        }
+    }
+
+    // These where the test holds, else others.
+    pub fn or_else(self, test: bool, others: Figures) -> Figures
+        ensures { λ r. ⌜ r ≡ cond test self others ⌝ }
+    {
+        if test { self } else { others }
+    }
+}

@@ -1,0 +1,16 @@
+-- What a writer does to the bytes lent.
+use Prim.Native.Nat.{ℕ, _+_, _≤_}
+use mathlib.Core.Path.{_≡_}
+use mathlib.Core.List.{List}
+use lib.ListN.{length}
+use Rattle.buffers.specs.Bytes.{over}
+
+-- w has room for x from a place on
+pub record Room (at : ℕ) (x w : List ℕ) : Type 0 where
+  pub fits : at + length x ≤ length w
+
+-- the bytes x were put over w from the place at up to p, and u is what that left
+pub record Put (at p : ℕ) (x w u : List ℕ) : Type 0 where
+  pub left : u ≡ over at x w
+  pub ends : p ≡ at + length x
+  pub room : p ≤ length w

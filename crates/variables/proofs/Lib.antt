@@ -1,0 +1,3 @@
+pub mod EditLaws
+pub mod LookupLaws
+pub mod StandingLaws

@@ -1,9 +1,0 @@
-pub mod SpanLaws
-pub mod TurnLaws
-pub mod MoveLaws
-pub mod LeafLaws
-pub mod PlaceLaws
-pub mod CommitLaws
-pub mod NextLaws
-pub mod ImageLaws
-pub mod SerializeLaws

@@ -1,4 +1,0 @@
-pub mod Move
-pub mod Answer
-pub mod Active
-pub mod Image
