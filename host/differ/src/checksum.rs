@@ -3,8 +3,8 @@
 use feqyondil::{Tables, CRC32_TABLE_ENTRIES};
 
 use crate::compare::{Difference, Pair};
+use crate::mode::Mode;
 use crate::rng::Rng;
-use crate::Mode;
 
 /// Longest input: the work area of one bank.
 const LONGEST: usize = 131_072;

@@ -4,6 +4,7 @@
 
 mod checksum;
 mod compare;
+mod mode;
 mod opening;
 mod partition;
 mod rng;
@@ -15,27 +16,13 @@ use std::fs;
 use std::process::ExitCode;
 use std::time::{Instant, SystemTime, UNIX_EPOCH};
 
+use mode::Mode;
+
 const USAGE: &str = "usage: differ [--long | --memcheck | --write-replay FILE] [--seed N]
   --long               many more inputs
   --memcheck           few inputs, with buffers that a memory checker can watch
   --write-replay FILE  writes the fixed list of the oracle's answers, and compares nothing
   --seed N             the seed of the random inputs (long: taken from the clock; else 1)";
-
-/// How much to compare.
-#[derive(Clone, Copy, Debug, PartialEq)]
-pub enum Mode {
-    Short,
-    Long,
-}
-
-impl Mode {
-    pub fn pick<T>(self, short: T, long: T) -> T {
-        match self {
-            Mode::Short => short,
-            Mode::Long => long,
-        }
-    }
-}
 
 /// What to do.
 #[derive(Debug, PartialEq)]

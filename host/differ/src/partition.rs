@@ -1,6 +1,7 @@
 //! The reading of banks: the port against the Rust on the domain where both are to be
 //! equal, and against the scope paper's words (01) everywhere.
 
+mod counts;
 pub mod damage;
 mod edges;
 mod lent;
@@ -8,16 +9,15 @@ pub mod make;
 pub mod model;
 mod rust;
 pub mod smallest;
-mod tally;
 pub mod view;
 pub mod written;
 
 use image::{Header, BANK};
 
+use crate::mode::Mode;
 use crate::rng::Rng;
-use crate::Mode;
+use counts::Counts;
 use lent::Lending;
-use tally::Tally;
 use view::Slot;
 
 type Outcome = Result<(), String>;
@@ -32,14 +32,14 @@ pub fn run(mode: Mode, rng: &mut Rng) -> Result<u64, String> {
     judge.part("at boundaries", |j| j.edges(mode, rng))?;
     judge.part("damaged", |j| j.damaged(count, rng))?;
     judge.part("without records", |j| j.junk(count / 10, rng))?;
-    Ok(judge.tally.banks())
+    Ok(judge.counts.banks())
 }
 
 struct Judge {
     port: PortReader,
     /// What follows the bank in its image: a Valid bank without records, then random bytes.
     next: Vec<u8>,
-    tally: Tally,
+    counts: Counts,
 }
 
 impl Judge {
@@ -50,15 +50,15 @@ impl Judge {
         };
         let mut next = header.bytes();
         next.extend(rng.bytes(BANK - next.len()));
-        let tally = Tally::default();
-        Judge { port, next, tally }
+        let counts = Counts::default();
+        Judge { port, next, counts }
     }
 
     /// Runs one part and prints what it compared.
     fn part(&mut self, name: &str, run: impl FnOnce(&mut Self) -> Outcome) -> Outcome {
-        let before = self.tally;
+        let before = self.counts;
         run(self)?;
-        println!("differ: bank: {name}: {}", self.tally.since(&before));
+        println!("differ: bank: {name}: {}", self.counts.since(&before));
         Ok(())
     }
 
@@ -94,7 +94,7 @@ impl Judge {
     fn judge(&mut self, bank: &[u8], rng: &mut Rng) -> Outcome {
         let how = Lending::random(rng);
         let Err(first) = self.compare(bank, how) else {
-            self.tally.count(&model::read(bank));
+            self.counts.count(&model::read(bank));
             return Ok(());
         };
         let least = smallest::smallest(bank, |b| self.compare(b, how).is_err());

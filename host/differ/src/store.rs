@@ -3,42 +3,23 @@
 //! made.
 
 mod book;
-mod call;
-mod commit;
 mod cuts;
-mod demand;
-mod edges;
 mod fixed;
-mod fixed_commits;
-mod flash;
 mod fuzz;
-mod least;
 mod lent;
 mod make;
-mod moving;
-mod reading;
-mod replay;
-mod requests;
 mod run;
 mod rust;
-mod same;
-mod smallest;
-mod sound;
-mod spoil;
-mod state;
-mod tally;
-mod told;
-mod two_banks;
-mod wear;
-mod wrapper;
 
+use crate::mode::Mode;
 use crate::rng::Rng;
-use crate::Mode;
+use fixed::two_banks;
 use lent::{Calls, Port, Standing};
-use run::Run;
-use tally::Tally;
+use make::{edges, moving, random};
+use run::counts::Counts;
+use run::{smallest, wrapper, Run};
 
-pub use replay::text as replay_text;
+pub use fixed::text as replay_text;
 
 type Outcome = Result<(), String>;
 
@@ -49,12 +30,12 @@ pub fn run(mode: Mode, rng: &mut Rng) -> Result<u64, String> {
     judge.part("the fixed list", |j| j.fixed())?;
     judge.part("the bench case of two banks", |j| j.two_banks())?;
     let count = mode.pick(600, 24_000);
-    judge.part("random", |j| j.random(count, make::run, rng))?;
+    judge.part("random", |j| j.random(count, random::run, rng))?;
     let count = mode.pick(120, 26_000);
     judge.part("banks that move", |j| j.random(count, moving::run, rng))?;
     let cuts = cuts::run(&Port, mode, rng)?;
     let fuzzed = fuzz::run(&Port, mode.pick(4_000, 200_000), Standing::Guarded(3), rng)?;
-    Ok(judge.tally.all_runs() + cuts + fuzzed)
+    Ok(judge.counts.all_runs() + cuts + fuzzed)
 }
 
 /// A few runs and fuzzed calls on buffers that stand alone, for a memory checker.
@@ -62,14 +43,14 @@ pub fn memcheck(rng: &mut Rng) -> Result<u64, String> {
     let mut judge = Judge::new(&Port);
     judge.part("alone in memory", |j| {
         (0..MEMCHECKED).try_for_each(|i| {
-            let make = if i % 2 == 0 { make::run } else { moving::run };
+            let make = if i % 2 == 0 { random::run } else { moving::run };
             let mut run = make(rng);
             run.standing = Standing::Alone;
             j.judge(&run)
         })
     })?;
     let fuzzed = fuzz::run(&Port, 10 * MEMCHECKED, Standing::Alone, rng)?;
-    Ok(judge.tally.all_runs() + fuzzed)
+    Ok(judge.counts.all_runs() + fuzzed)
 }
 
 /// Runs under a memory checker, which is slow.
@@ -77,21 +58,21 @@ const MEMCHECKED: usize = 40;
 
 struct Judge<'a> {
     port: &'a dyn Calls,
-    tally: Tally,
+    counts: Counts,
 }
 
 impl<'a> Judge<'a> {
     fn new(port: &'a dyn Calls) -> Self {
-        let tally = Tally::default();
-        Judge { port, tally }
+        let counts = Counts::default();
+        Judge { port, counts }
     }
 
     /// Runs one part and prints what it compared.
     fn part(&mut self, name: &str, run: impl FnOnce(&mut Self) -> Outcome) -> Outcome {
-        let before = std::mem::take(&mut self.tally);
+        let before = std::mem::take(&mut self.counts);
         run(self)?;
-        println!("differ: store: {name}: {}", self.tally);
-        self.tally += before;
+        println!("differ: store: {name}: {}", self.counts);
+        self.counts += before;
         Ok(())
     }
 
@@ -100,15 +81,15 @@ impl<'a> Judge<'a> {
     }
 
     fn fixed(&mut self) -> Outcome {
-        replay::runs().iter().try_for_each(|run| self.judge(run))
+        fixed::runs().iter().try_for_each(|run| self.judge(run))
     }
 
-    /// By `Store` too. This is the part's only run, so that its pair is the tally's.
+    /// By `Store` too. This is the part's only run, so that its pair is the one counted.
     fn two_banks(&mut self) -> Outcome {
         let run = two_banks::run();
         by_store(&run)?;
         self.judge(&run)?;
-        let pair = two_banks::measured(self.tally.fewest)?;
+        let pair = two_banks::measured(self.counts.fewest)?;
         println!("differ: store: {pair}");
         Ok(())
     }
@@ -126,8 +107,8 @@ impl<'a> Judge<'a> {
     /// One run on all sides; on a difference looks for the smallest run that shows it.
     fn judge(&mut self, run: &Run) -> Outcome {
         let first = match run::compare(run, self.port) {
-            Ok(tally) => {
-                self.tally += tally;
+            Ok(counts) => {
+                self.counts += counts;
                 return Ok(());
             }
             Err(first) => first,

@@ -5,11 +5,11 @@ use std::cell::RefCell;
 use image::{put_number, BANK, HEADER};
 
 use super::book::PART;
-use super::call::{Call, What, NO_REQUEST};
 use super::faulty::{bank, Committed, Faulty};
 use super::fuzz::{self, Case};
+use super::lent::call::{Call, What, NO_REQUEST, ROOM};
+use super::lent::state::{State, EMPTY, STATE};
 use super::run::compare;
-use super::state::{State, EMPTY, STATE};
 use super::tests::judged;
 use super::*;
 
@@ -44,17 +44,17 @@ fn has(message: &str, parts: &[&str]) {
 #[test]
 fn equal_commits_are_equal() {
     let run = Run::new([bank(200, 5), bank(200, 4)].concat(), moving(6));
-    let tally = compare(&run, &Port).unwrap();
-    assert_eq!((tally.moves, tally.erases, tally.bounded), (6, 6, 4));
-    assert_eq!((tally.reopened, tally.rust_reopened), (6, 6));
-    assert_eq!(tally.rust_calls, 19);
+    let counts = compare(&run, &Port).unwrap();
+    assert_eq!((counts.moves, counts.erases, counts.bounded), (6, 6, 4));
+    assert_eq!((counts.reopened, counts.rust_reopened), (6, 6));
+    assert_eq!(counts.rust_calls, 19);
 }
 
 #[test]
 fn a_commit_that_asks_for_nothing_is_found() {
     let nothing = |done: &mut Committed| {
         *done.requests = NO_REQUEST;
-        done.out.fill(call::ROOM);
+        done.out.fill(ROOM);
     };
     let message = found(nothing, bank(200, 4), moving(0));
     has(&message, &["at call 1 (commit", "write at 0, length 200"]);
@@ -135,7 +135,7 @@ fn a_limit_that_counts_the_dead_is_found() {
         // Live and dead system records come to 81 of 100 here, and to more after an insert.
         if State::read(&done.before.0).unwrap().entries[0].total > 124 {
             done.undo();
-            done.out.fill(call::ROOM);
+            done.out.fill(ROOM);
             done.number = 9;
         }
     };
@@ -178,17 +178,19 @@ fn an_output_behind_the_length_is_found() {
     has(&message, &["from 200 on, 01: a5a5", "port: ffa5"]);
 }
 
+/// Live records over a bank's size, and two commits that are refused with 12.
+fn over(size: u32) -> Run {
+    let big = Call::new(What::Insert(vec![1; BANK]), b"k", 2);
+    let mut image = bank(size, 5);
+    image[16..HEADER].fill(0xFF);
+    Run::new(
+        [image, bank(200, 4)].concat(),
+        vec![big, commit(), commit()],
+    )
+}
+
 #[test]
 fn refusals_that_change_too_little_or_too_much_are_found() {
-    let over = |size| {
-        let big = Call::new(What::Insert(vec![1; BANK]), b"k", 2);
-        let mut image = bank(size, 5);
-        image[16..HEADER].fill(0xFF);
-        Run::new(
-            [image, bank(200, 4)].concat(),
-            vec![big, commit(), commit()],
-        )
-    };
     let stays = Faulty(|done: &mut Committed| {
         if done.number == 12 {
             done.undo();
@@ -201,9 +203,9 @@ fn refusals_that_change_too_little_or_too_much_are_found() {
     });
     for size in [200, BANK as u32] {
         // The Rust may be asked where the size is 65,536.
-        let tally = compare(&over(size), &Port).unwrap();
-        assert_eq!((tally.numbers[12], tally.reopened), (2, 0));
-        assert_eq!(tally.rust_calls, if size == 200 { 1 } else { 3 });
+        let counts = compare(&over(size), &Port).unwrap();
+        assert_eq!((counts.numbers[12], counts.reopened), (2, 0));
+        assert_eq!(counts.rust_calls, if size == 200 { 1 } else { 3 });
         assert!(compare(&over(size), &stays).is_err());
         let message = compare(&over(size), &forgets).unwrap_err();
         has(

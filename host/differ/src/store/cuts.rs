@@ -11,10 +11,8 @@ mod single;
 mod steps;
 
 use super::lent::Calls;
-use super::Outcome;
+use crate::mode::Mode;
 use crate::rng::Rng;
-use crate::Mode;
-use plan::Plan;
 use repeated::Manner;
 
 /// Runs every part and answers how many cut points there were.
@@ -24,13 +22,6 @@ pub fn run(calls: &dyn Calls, mode: Mode, rng: &mut Rng) -> Result<u64, String> 
     let on = repeated::run(calls, Manner::StraightOn, mode.pick(600, 20_000), rng)?;
     let first = repeated::run(calls, Manner::MoveFirst, mode.pick(1_000, 60_000), rng)?;
     Ok(examples + single + on + first)
-}
-
-/// What to say of a plan that fails: the least one found that does.
-fn difference(plan: Plan, first: String, judge: impl Fn(&Plan) -> Outcome) -> String {
-    let least = plan.least(|plan| judge(plan).is_err());
-    let told = judge(&least).err().unwrap_or(first);
-    format!("DIFFERENCE after a power cut\n{least}\n{told}")
 }
 
 #[cfg(test)]

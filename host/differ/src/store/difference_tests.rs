@@ -6,8 +6,8 @@ use std::process::Command;
 
 use image::{put_number, BANK};
 
-use super::call::Call;
 use super::fuzz::{self, Case};
+use super::lent::call::{Call, What};
 use super::tests::{case, insert, judged, lookup, remove};
 use super::*;
 
@@ -44,16 +44,16 @@ fn the_rust_opens_more_than_16_banks() {
     image.resize(17 * BANK, 0xFF);
     let none = "0, found 0, place 0, length 0".to_string();
     assert_eq!(rust_answers(&image, &lookup(b"")), Ok(none));
-    let tally = judged(&Port, &Run::new(image, Vec::new())).unwrap();
-    assert_eq!((tally.runs[2], tally.rust_runs), (1, 0));
+    let counts = judged(&Port, &Run::new(image, Vec::new())).unwrap();
+    assert_eq!((counts.runs[2], counts.rust_runs), (1, 0));
 }
 
 #[test]
 fn the_rust_inserts_past_the_work_area() {
     let image = plain(1);
     assert_eq!(rust_answers(&image, &insert(131_012)), Ok("0".to_string()));
-    let tally = |len| judged(&Port, &Run::new(image.clone(), vec![insert(len)])).unwrap();
-    let (over, full) = (tally(131_012), tally(131_011));
+    let counts = |len| judged(&Port, &Run::new(image.clone(), vec![insert(len)])).unwrap();
+    let (over, full) = (counts(131_012), counts(131_011));
     assert_eq!((over.numbers[8], over.rust_calls), (1, 0));
     assert_eq!((full.numbers[0], full.rust_calls), (1, 1));
 }
@@ -76,8 +76,8 @@ fn what_is_lent_is_checked() {
 #[test]
 fn the_rust_has_one_word_for_two_refusals() {
     for (image, number) in [(Vec::new(), 1), (vec![0xFF; BANK], 4)] {
-        let tally = judged(&Port, &Run::new(image, Vec::new())).unwrap();
-        assert_eq!((tally.runs[number], tally.rust_runs), (1, 1));
+        let counts = judged(&Port, &Run::new(image, Vec::new())).unwrap();
+        assert_eq!((counts.runs[number], counts.rust_runs), (1, 1));
     }
 }
 
@@ -94,13 +94,13 @@ fn rust_says(image: &[u8], calls: &[Call]) -> String {
 
 #[test]
 fn the_rust_moves_past_the_last_generation() {
-    let calls = vec![insert(0), Call::new(call::What::Remove, b"", 0), commit()];
+    let calls = vec![insert(0), Call::new(What::Remove, b"", 0), commit()];
     let image = plain(u32::MAX);
     let rust = rust_says(&image, &calls);
     let written = "0, erase 1 at 0, write at 0, length 24, output 3356564e1800000000000000ffff01";
     assert!(rust.starts_with(written), "{rust}");
-    let tally = judged(&Port, &Run::new(image, calls)).unwrap();
-    assert_eq!((tally.numbers[11], tally.rust_calls), (1, 2));
+    let counts = judged(&Port, &Run::new(image, calls)).unwrap();
+    assert_eq!((counts.numbers[11], counts.rust_calls), (1, 2));
 }
 
 #[test]
@@ -113,22 +113,22 @@ fn the_rust_has_one_word_for_three_refusals() {
         put_number(&mut image, at, 0);
         image
     };
-    let system = Call::new(call::What::Insert(vec![]), b"", 1);
+    let system = Call::new(What::Insert(vec![]), b"", 1);
     for (image, put, number) in [
         (limited(16), system, 9),
         (limited(20), insert(0), 10),
         (unlimited.clone(), insert(BANK), 12),
     ] {
-        let tally = judged(&Port, &Run::new(image, vec![put, commit()])).unwrap();
-        assert_eq!((tally.numbers[number], tally.rust_calls), (1, 2));
+        let counts = judged(&Port, &Run::new(image, vec![put, commit()])).unwrap();
+        assert_eq!((counts.numbers[number], counts.rust_calls), (1, 2));
     }
 }
 
 #[test]
 fn an_output_that_is_too_short_is_refused() {
     let calls = vec![Call::commit(BANK - 1), Call::whole(BANK - 1)];
-    let tally = judged(&Port, &Run::new(plain(1), calls)).unwrap();
-    assert_eq!((tally.numbers[5], tally.rust_calls), (2, 0));
+    let counts = judged(&Port, &Run::new(plain(1), calls)).unwrap();
+    assert_eq!((counts.numbers[5], counts.rust_calls), (2, 0));
 }
 
 /// Set for a process that may not have much memory.
@@ -179,7 +179,7 @@ fn the_rust_pads_until_memory_ends() {
     ] {
         let said = with_little_memory(test);
         assert!(said.contains("memory allocation of"), "{said}");
-        let tally = judged(&Port, &Run::new(plain(1), padding(last))).unwrap();
-        assert_eq!((tally.numbers[number], tally.rust_calls), (1, 1));
+        let counts = judged(&Port, &Run::new(plain(1), padding(last))).unwrap();
+        assert_eq!((counts.numbers[number], counts.rust_calls), (1, 1));
     }
 }

@@ -2,9 +2,9 @@
 
 use image::{Header, Record};
 
-use super::call::{Asked, NO_REQUEST};
+use super::lent::call::{Asked, NO_REQUEST};
+use super::lent::state::State;
 use super::lent::Calls;
-use super::state::State;
 
 /// A commit of the port, with what was lent before it.
 pub struct Committed<'a> {

@@ -1,24 +1,35 @@
-//! The runs of the fixed list: small images, each made for one thing to be seen.
+//! Runs without a random number: the fixed list of small images, each made for one thing to be
+//! seen, also as text with the oracle's answers, and the bench case of two banks.
+
+mod commits;
+mod pieces;
+mod replay;
+pub mod two_banks;
 
 use image::{put_number, Header, Record, BANK, COMMON_GUID, HEADER, RECORD};
 
 use super::book::PART;
-use super::call::{Call, What};
-use super::fixed_commits;
+use super::lent::call::Call;
 use super::run::Run;
+use pieces::{ending, get, held, put, remove, value, Named};
 
-pub type Named = (&'static str, Run);
+/// The list's runs.
+pub fn runs() -> Vec<Run> {
+    list().into_iter().map(|(_, run)| run).collect()
+}
 
-/// Room for every value of the list.
-const ROOM: usize = PART;
+/// The whole list with the oracle's answers.
+pub fn text() -> Result<String, String> {
+    replay::text(&list())
+}
 
-pub fn list() -> Vec<Named> {
+fn list() -> Vec<Named> {
     let mut out = openings();
     out.extend(ends());
     out.extend(edits());
     out.extend(keys());
     out.extend(kills());
-    out.extend(fixed_commits::list());
+    out.extend(commits::list());
     out
 }
 
@@ -174,37 +185,4 @@ fn kills() -> Vec<Named> {
             on(&guids, after(put(b"k", b"", 0), 0)),
         ),
     ]
-}
-
-/// A bank of this generation with one live system record, `rate`: 74 bytes.
-pub fn held(generation: u32) -> Vec<u8> {
-    let header = Header {
-        generation,
-        ..Header::default()
-    };
-    image::bank(&header, &[Record::live(b"rate", b"123456789")])
-}
-
-/// The same of generation 1 and this size, with bytes behind the record.
-pub fn ending(size: usize, then: &[u8]) -> Vec<u8> {
-    let mut bank = held(1);
-    put_number(&mut bank, 4, size as u32);
-    bank[74..74 + then.len()].copy_from_slice(then);
-    bank
-}
-
-pub fn put(key: &[u8], value: &[u8], typ: u32) -> Call {
-    Call::new(What::Insert(value.to_vec()), key, typ)
-}
-
-pub fn remove(key: &[u8], typ: u32) -> Call {
-    Call::new(What::Remove, key, typ)
-}
-
-pub fn get(key: &[u8], typ: u32) -> Call {
-    Call::new(What::Lookup, key, typ)
-}
-
-pub fn value(key: &[u8], typ: u32) -> Call {
-    Call::new(What::Value(ROOM), key, typ)
 }

@@ -1,28 +1,27 @@
 //! The port's calls on any state and any work area: refusal 6, or the answer of the book
 //! that they are. Nothing else changes, and nothing beside the buffers.
 
-use super::book::{Book, PART};
-use super::call::{hex, parting, Call};
-use super::least::smallest;
+mod case;
+mod smallest;
+mod spoil;
+
+use super::book::{sound, Book, PART};
+use super::lent::call::{hex, parting};
+use super::lent::same::{same_state, same_work};
+use super::lent::state::{State, STATE};
 use super::lent::{Calls, Lent, Standing};
-use super::same::{same_state, same_work};
-use super::spoil::spoil;
-use super::state::{State, STATE};
-use super::{make, sound};
+use super::make::random;
 use crate::partition::smallest::shown;
 use crate::rng::Rng;
+use smallest::smallest;
+use spoil::spoil;
+
+pub use case::Case;
 
 /// Cases made from one book.
 const FROM_ONE: usize = 20;
 /// Bytes of a work area that are printed.
 const PRINTED: usize = 600;
-
-#[derive(Clone, Debug, PartialEq)]
-pub struct Case {
-    pub state: Vec<u8>,
-    pub work: Vec<u8>,
-    pub call: Call,
-}
 
 /// Runs `count` calls, prints what became of them and answers how many they were.
 pub fn run(
@@ -41,7 +40,7 @@ pub fn run(
             let mut case = Case {
                 state: state.to_vec(),
                 work: work.clone(),
-                call: make::call(rng, Some(&mut book)),
+                call: random::call(rng, Some(&mut book)),
             };
             spoil(rng, &book, &mut case);
             sound += usize::from(judge(&case, port, standing)?);
@@ -55,8 +54,8 @@ pub fn run(
 
 /// The store after a run, and any tally; `None` where its opening was refused.
 fn book(rng: &mut Rng) -> Option<Book> {
-    let mut book = Book::open(&make::image(rng), usize::MAX).ok()?;
-    let calls = make::calls(rng, Some(book.clone()));
+    let mut book = Book::open(&random::image(rng), usize::MAX).ok()?;
+    let calls = random::calls(rng, Some(book.clone()));
     calls.iter().for_each(|call| drop(book.answer(call)));
     let any = rng.next() as u32;
     book.tally = rng.pick(&[0, 1, u32::MAX, any]);

@@ -1,86 +1,32 @@
-//! A run on every side: an opening and a list of calls, each followed by a look at the
-//! answer, the state and the whole work area.
+//! A run on every side: an opening and a list of calls, each followed by a look at the answer, the
+//! state, the whole work area and, after commits, the flash.
 
-use image::BANK;
+pub mod counts;
+mod demand;
+pub mod domain;
+pub mod flash;
+mod input;
+pub mod smallest;
+pub mod wear;
+pub mod wrapper;
 
 use super::book::{Book, PART};
-use super::call::{parting, Answer, Call};
-use super::demand::Watch;
-use super::lent::{Calls, Lent, Standing};
+use super::lent::call::{parting, Answer, Call};
+use super::lent::same::{same_state, same_work};
+use super::lent::state::STATE;
+use super::lent::{Calls, Lent};
 use super::rust::Rust;
-use super::same::{same_state, same_work};
-use super::state::STATE;
-use super::tally::Tally;
-use crate::partition::model;
+use counts::Counts;
+use demand::Watch;
+use domain::{comparable, within};
+
+pub use input::Run;
 
 /// What state and work area hold before the opening.
 const BEFORE: u8 = 0x5A;
 
-#[derive(Clone, Debug, PartialEq)]
-pub struct Run {
-    pub image: Vec<u8>,
-    pub calls: Vec<Call>,
-    pub standing: Standing,
-    /// Bytes lent for the state.
-    pub state: usize,
-    /// Bytes lent for the work area, over what the image needs.
-    pub spare: isize,
-}
-
-impl Run {
-    pub fn new(image: Vec<u8>, calls: Vec<Call>) -> Self {
-        Run {
-            image,
-            calls,
-            standing: Standing::Guarded(0),
-            state: STATE,
-            spare: 0,
-        }
-    }
-
-    pub fn work(&self) -> usize {
-        let need = self.image.len() / BANK * PART;
-        (need as isize + self.spare).max(0) as usize
-    }
-
-    /// What the opening answers by 01: the store, or a number.
-    pub fn opened(&self) -> Result<Book, u32> {
-        if self.state < STATE {
-            return Err(6);
-        }
-        Book::open(&self.image, self.work())
-    }
-
-    /// The Rust may be asked: no bank is outside the domain, and neither is the refusal. A
-    /// memory checker is to watch the port alone; it takes fault at the Rust's `vec!`.
-    fn comparable(&self, opened: &Result<Book, u32>) -> bool {
-        let asked = matches!(opened, Ok(_) | Err(1 | 4)) && self.standing != Standing::Alone;
-        asked && inside(&self.image)
-    }
-}
-
-/// No bank of it is outside the domain.
-pub fn inside(image: &[u8]) -> bool {
-    let mut banks = image.chunks_exact(BANK);
-    banks.all(|b| model::read(b).outside.is_none())
-}
-
-/// The Rust may be asked for what 01 answers this to. What it does instead, where it may not, is
-/// in docs/DIFFERENCES.md.
-pub fn within(book: &mut Book, said: &Answer) -> bool {
-    let bank = book.active_bank();
-    match said {
-        Answer::Number(number) | Answer::Lookup(number, _) | Answer::Whole(number, ..) => {
-            *number == 0
-        }
-        Answer::Value(..) => bank.is_some(),
-        Answer::Commit(12, ..) => bank.is_some_and(|b| b.header.size as usize == BANK),
-        Answer::Commit(number, ..) => matches!(number, 0 | 9 | 10),
-    }
-}
-
 /// Runs it on every side; the error is what each says where they differ.
-pub fn compare(run: &Run, port: &dyn Calls) -> Result<Tally, String> {
+pub fn compare(run: &Run, port: &dyn Calls) -> Result<Counts, String> {
     let before = (vec![BEFORE; run.state], vec![BEFORE; run.work()]);
     let mut lent = Lent::new(port, run.standing, &before.0, &before.1);
     let mut sides = Sides::open(run, before);
@@ -96,7 +42,7 @@ pub fn compare(run: &Run, port: &dyn Calls) -> Result<Tally, String> {
         sides.call(&mut lent, call).map_err(place)?;
     }
     sides.end()?;
-    Ok(sides.tally)
+    Ok(sides.counts)
 }
 
 fn at_opening(fault: String) -> String {
@@ -110,7 +56,7 @@ struct Sides<'a> {
     work: Vec<u8>,
     rust: Option<Rust<'a>>,
     watch: Watch,
-    tally: Tally,
+    counts: Counts,
 }
 
 impl<'a> Sides<'a> {
@@ -128,7 +74,7 @@ impl<'a> Sides<'a> {
         }
         Sides {
             watch: Watch::new(&run.image, book.as_ref().map_or(0, |b| b.slots.len())),
-            tally: Tally::opened(&book),
+            counts: Counts::opened(&book),
             rust: None,
             book,
             state,
@@ -138,11 +84,11 @@ impl<'a> Sides<'a> {
 
     /// Has the Rust open the image too, where it may be asked.
     fn ask_rust(&mut self, run: &'a Run) -> Result<(), String> {
-        if !run.comparable(&self.book) {
+        if !comparable(run, &self.book) {
             return Ok(());
         }
         self.rust = Rust::open(&run.image).map_err(|fault| format!("\n  Rust: {fault}"))?;
-        self.tally.rust_runs += 1;
+        self.counts.rust_runs += 1;
         match (&self.rust, &self.book) {
             (None, Err(_)) => Ok(()),
             (None, Ok(_)) => Err("\n  Rust: refused\n  01:   0".to_string()),
@@ -156,13 +102,13 @@ impl<'a> Sides<'a> {
             Ok(book) => {
                 let generation = book.generation();
                 let said = book.answer(call);
-                self.tally.moves += u64::from(book.generation() != generation);
+                self.counts.moves += u64::from(book.generation() != generation);
                 let within = within(book, &said);
                 (said, book.active_bank().is_some(), within)
             }
             Err(_) => (call.refused(6), false, false),
         };
-        self.tally.called(call, &said, asked);
+        self.counts.called(call, &said, asked);
         self.keep(&said);
         let rust = match &mut self.rust {
             Some(rust) if within => Some(rust.answer(call)),
@@ -198,8 +144,8 @@ impl<'a> Sides<'a> {
         let Ok(book) = &mut self.book else {
             return Ok(());
         };
-        let (watch, tally) = (&mut self.watch, &mut self.tally);
-        watch.called(call, &port, rust.as_ref(), (book, lent), tally)
+        let (watch, counts) = (&mut self.watch, &mut self.counts);
+        watch.called(call, &port, rust.as_ref(), (book, lent), counts)
     }
 
     /// After an accepted edit or a move the active bank's part and entry are new.
@@ -222,7 +168,7 @@ impl<'a> Sides<'a> {
         let (Some(rust), Ok(book)) = (&mut self.rust, &self.book) else {
             return Ok(());
         };
-        self.tally.rust_calls += 1;
+        self.counts.rust_calls += 1;
         if !matches!(said, Answer::Number(_) | Answer::Commit(..)) {
             return Ok(());
         }

@@ -1,5 +1,8 @@
 //! The Rust's store: its answers, and the state and work area that its records amount to.
 
+mod requests;
+mod told;
+
 use std::borrow::Cow;
 use std::panic::{catch_unwind, AssertUnwindSafe};
 
@@ -7,10 +10,10 @@ use image::{number, BANK, COMMON_GUID, HEADER, RECORD, SYSTEM_GUID};
 use oracle::{v3, Nvram, Partition, VarType};
 
 use super::book::{Book, LIVE, PART};
-use super::call::{lent, Answer, Call, What};
-use super::requests::Requests;
-use super::state::{Entry, State, VALID};
-use super::told::Told;
+use super::lent::call::{lent, Answer, Call, What};
+use super::lent::state::{Entry, State, VALID};
+use requests::Requests;
+use told::Told;
 
 /// An opened image.
 pub struct Rust<'a> {

@@ -3,14 +3,14 @@
 use image::{put_number, Header, Record, BANK, COMMON_GUID};
 
 use super::book::{Book, PART};
-use super::call::{Call, What};
 use super::fuzz::{self, Case};
-use super::state::{State, ENTRIES, VALID};
+use super::lent::call::{Call, What};
+use super::lent::state::{State, ENTRIES, VALID};
 use super::*;
 
-pub fn judged(port: &dyn Calls, run: &Run) -> Result<Tally, String> {
+pub fn judged(port: &dyn Calls, run: &Run) -> Result<Counts, String> {
     let mut judge = Judge::new(port);
-    judge.judge(run).map(|()| judge.tally)
+    judge.judge(run).map(|()| judge.counts)
 }
 
 fn bank(generation: u32, keys: &[&[u8]]) -> Vec<u8> {
@@ -120,8 +120,11 @@ impl Calls for SkipsEntries {
 fn equal_sides_are_equal() {
     let image = [bank(3, &[b"a"]), bank(5, &[b"b", b"b"]), vec![0xFF; BANK]].concat();
     let calls = vec![lookup(b"b"), remove(b"b"), insert(5), lookup(b"b")];
-    let tally = judged(&Port, &Run::new(image, calls)).unwrap();
-    assert_eq!((tally.rust_runs, tally.rust_calls, tally.found), (1, 4, 1));
+    let counts = judged(&Port, &Run::new(image, calls)).unwrap();
+    assert_eq!(
+        (counts.rust_runs, counts.rust_calls, counts.found),
+        (1, 4, 1)
+    );
 }
 
 #[test]
@@ -217,7 +220,7 @@ fn a_third_guid_is_common_on_every_side() {
     };
     let image = image::bank(&Header::default(), &[third]);
     let call = |typ| Call::new(What::Lookup, b"k", typ);
-    let tally = judged(&Port, &Run::new(image, vec![call(0), call(1)])).unwrap();
-    assert_eq!((tally.found, tally.rust_calls), (1, 2));
+    let counts = judged(&Port, &Run::new(image, vec![call(0), call(1)])).unwrap();
+    assert_eq!((counts.found, counts.rust_calls), (1, 2));
     assert_ne!([7; 16], COMMON_GUID);
 }

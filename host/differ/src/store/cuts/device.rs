@@ -4,15 +4,14 @@ use std::mem;
 
 use image::{number, BANK, RECORD};
 
-use super::super::book::PART;
-use super::super::call::{Answer, Call, What};
-use super::super::flash::Flash;
-use super::super::lent::{Calls, Lent};
-use super::super::sound;
-use super::super::state::{Entry, State};
 use super::plan::{Action, Plan, SPARE};
 use super::reader::{judge, Answers, Reader, Verdict};
 use super::steps::{steps, Order, Step};
+use crate::store::book::{sound, PART};
+use crate::store::lent::call::{Answer, Call, What};
+use crate::store::lent::state::{Entry, State};
+use crate::store::lent::{Calls, Lent};
+use crate::store::run::flash::Flash;
 
 pub struct Device<'a> {
     pub flash: Flash,

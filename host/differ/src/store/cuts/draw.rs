@@ -2,10 +2,10 @@
 
 use image::{put_number, Header, Record, BANK, COMMON_GUID, HEADER, SYSTEM_GUID};
 
-use super::super::book::size;
-use super::super::call::{Call, What};
 use super::plan::{Action, Plan, SPARE};
 use crate::rng::Rng;
+use crate::store::book::size;
+use crate::store::lent::call::{Call, What};
 
 /// Those that begin with 0xFF leave the byte behind a record's header erased.
 const KEYS: [&[u8]; 9] = [

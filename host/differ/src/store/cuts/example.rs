@@ -2,12 +2,12 @@
 
 use image::{Header, BANK};
 
-use super::super::call::{Call, What};
-use super::super::lent::Calls;
 use super::device::{Commit, Device};
 use super::plan::{Action, Plan};
 use super::single::{cut, finish, Count};
 use super::steps::{Order, DOWNWARD, UPWARD};
+use crate::store::lent::call::{Call, What};
+use crate::store::lent::Calls;
 
 const KEY: &[u8] = b"strikes";
 const SYSTEM: u32 = 1;

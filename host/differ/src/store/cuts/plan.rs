@@ -4,11 +4,14 @@ use std::fmt::{self, Display, Formatter};
 
 use image::BANK;
 
-use super::super::book::Book;
-use super::super::call::Call;
-use super::super::run::Run;
-use super::super::smallest::shown;
 use crate::shrink::fewer;
+use crate::store::book::Book;
+use crate::store::lent::call::Call;
+use crate::store::run::smallest::shown;
+use crate::store::run::Run;
+
+/// What going through a plan answers: nothing, or what was lost.
+pub type Outcome = Result<(), String>;
 
 /// The key of the record that has a commit move; no other has it.
 pub const SPARE: &[u8] = b"spare";
@@ -73,6 +76,13 @@ impl Display for Plan {
         let size = self.size().unwrap_or(0);
         write!(f, "{}\n  the active bank's size is {size}", shown(&run))
     }
+}
+
+/// What to say of a plan that fails: the least one found that does.
+pub fn difference(plan: Plan, first: String, judge: impl Fn(&Plan) -> Outcome) -> String {
+    let least = plan.least(|plan| judge(plan).is_err());
+    let told = judge(&least).err().unwrap_or(first);
+    format!("DIFFERENCE after a power cut\n{least}\n{told}")
 }
 
 #[cfg(test)]

@@ -2,10 +2,10 @@
 
 use image::BANK;
 
-use super::super::book::PART;
-use super::super::call::{hex, Answer, Call, What};
-use super::super::lent::{Calls, Lent, Standing};
-use super::super::state::{State, STATE};
+use crate::store::book::PART;
+use crate::store::lent::call::{hex, Answer, Call, What};
+use crate::store::lent::state::{State, STATE};
+use crate::store::lent::{Calls, Lent, Standing};
 
 /// What a store answers to each key and type: a value, or that there is none.
 #[derive(Clone, Debug, PartialEq)]

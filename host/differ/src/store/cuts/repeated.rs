@@ -2,13 +2,13 @@
 
 use std::fmt::{self, Display, Formatter};
 
-use super::super::lent::Calls;
 use super::device::Device;
-use super::plan::{Action, Plan};
+use super::draw;
+use super::plan::{difference, Action, Outcome, Plan};
 use super::reader::Verdict;
 use super::steps::{Step, DOWNWARD};
-use super::{difference, draw, Outcome};
 use crate::rng::Rng;
+use crate::store::lent::Calls;
 
 /// How a store goes on after a cut.
 #[derive(Clone, Copy, Debug, PartialEq)]

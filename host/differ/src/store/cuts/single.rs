@@ -2,13 +2,13 @@
 
 use std::fmt::{self, Display, Formatter};
 
-use super::super::lent::Calls;
 use super::device::{Commit, Device};
-use super::plan::{Action, Plan};
+use super::draw;
+use super::plan::{difference, Action, Outcome, Plan};
 use super::reader::Verdict;
 use super::steps::{Order, DOWNWARD, UPWARD};
-use super::{difference, draw, Outcome};
 use crate::rng::Rng;
+use crate::store::lent::Calls;
 
 /// About so many cut points of a commit are judged that has more, and those near its ends.
 const MOST: usize = 200;

@@ -2,8 +2,8 @@
 
 use image::BANK;
 
-use super::super::call::Answer;
-use super::super::flash::erase;
+use crate::store::lent::call::Answer;
+use crate::store::run::flash::erase;
 
 /// An erase or one byte's programming. Each is taken as whole: power goes between two of them.
 #[derive(Clone, Copy, Debug, PartialEq)]
@@ -72,8 +72,8 @@ pub fn steps(flash: &[u8], answer: &Answer, order: &Order) -> Result<Vec<Step>, 
 
 #[cfg(test)]
 mod tests {
-    use super::super::super::flash::Flash;
     use super::*;
+    use crate::store::run::flash::Flash;
 
     #[test]
     fn the_steps_of_either_order_are_the_commit() {

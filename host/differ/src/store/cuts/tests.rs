@@ -2,14 +2,14 @@
 
 use image::{number, Record, BANK};
 
-use super::super::book::PART;
-use super::super::call::{Call, What};
-use super::super::lent::Port;
-use super::super::state::{State, VALID};
-use super::plan::Action;
+use super::plan::{Action, Plan};
 use super::single::Count;
 use super::steps::{Order, DOWNWARD, UPWARD};
 use super::*;
+use crate::store::book::PART;
+use crate::store::lent::call::{Call, What};
+use crate::store::lent::state::{State, VALID};
+use crate::store::lent::Port;
 
 fn count(points: u64, value_lost: u64, store_lost: u64) -> Result<Count, String> {
     Ok(Count {

@@ -2,14 +2,15 @@
 
 use image::{put_number, Header, Record, BANK, COMMON_GUID, HEADER, RECORD};
 
-use super::call::Call;
-use super::fixed::{ending, get, held, put, remove, value, Named};
-use super::run::Run;
+use super::pieces::{ending, get, held, put, remove, value, Named};
+use crate::store::lent::call::Call;
+use crate::store::run::Run;
 
 pub fn list() -> Vec<Named> {
     let mut out = in_place();
     out.extend(moves());
     out.extend(limits());
+    out.extend(over_size());
     out.extend(sizes());
     out
 }
@@ -74,7 +75,7 @@ fn moves() -> Vec<Named> {
     ]
 }
 
-/// Which records a limit counts, and what is too much after a move.
+/// Which records a limit counts.
 fn limits() -> Vec<Named> {
     let limited = |system: u32, common: u32, records: &[Record]| {
         let header = Header {
@@ -101,6 +102,19 @@ fn limits() -> Vec<Named> {
         ]
     };
     let both = vec![put(b"k", b"v", 0), put(b"k", b"v", 1), commit()];
+    vec![
+        (
+            "third-guids-count-in-no-limit",
+            Run::new(third, vec![commit()]),
+        ),
+        ("system-limit", Run::new(system, past(1))),
+        ("common-limit", Run::new(common, past(0))),
+        ("both-limits", Run::new(limited(0, 0, &[]), both)),
+    ]
+}
+
+/// What is too much after a move.
+fn over_size() -> Vec<Named> {
     let room = vec![0x41; BANK - 74 - RECORD - 2];
     let over = vec![
         put(b"k", &room, 0),
@@ -116,13 +130,6 @@ fn limits() -> Vec<Named> {
     let empty = [unlimited(1), vec![0xFF; BANK]].concat();
     let valid = [unlimited(1), held(1)].concat();
     vec![
-        (
-            "third-guids-count-in-no-limit",
-            Run::new(third, vec![commit()]),
-        ),
-        ("system-limit", Run::new(system, past(1))),
-        ("common-limit", Run::new(common, past(0))),
-        ("both-limits", Run::new(limited(0, 0, &[]), both)),
         (
             "over-after-the-move",
             Run::new(unlimited(1), over_and_whole),

@@ -4,13 +4,13 @@ use std::collections::HashSet;
 
 use image::BANK;
 
-use super::book::{Book, Slot, PART};
-use super::call::{Answer, Call, What};
-use super::lent::Lent;
-use super::run::inside;
-use super::rust::Rust;
-use super::same::{same_state, same_work};
-use super::state::STATE;
+use super::domain::inside;
+use crate::store::book::{Book, Slot, PART};
+use crate::store::lent::call::{Answer, Call, What};
+use crate::store::lent::same::{same_state, same_work};
+use crate::store::lent::state::STATE;
+use crate::store::lent::Lent;
+use crate::store::rust::Rust;
 
 /// Keys looked up at each end of a bank with more of them: every call goes through all banks.
 const KEYS: usize = 3;
@@ -137,8 +137,8 @@ fn lookups(book: &mut Book) -> Vec<Call> {
 
 #[cfg(test)]
 mod tests {
-    use super::super::lent::{Port, Standing};
     use super::*;
+    use crate::store::lent::{Port, Standing};
     use image::{Header, Record};
 
     /// A store of two banks of size 100 with one record, its book, and its flash.

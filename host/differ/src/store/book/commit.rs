@@ -3,8 +3,9 @@
 
 use image::{Record, BANK, COMMON_GUID, HEADER, SYSTEM_GUID};
 
-use super::book::{size, Bank, Book, Slot, LIVE};
-use super::call::{lent, Answer, Call};
+use super::bank::{size, Bank, Slot, LIVE};
+use super::list::Book;
+use crate::store::lent::call::{lent, Answer, Call};
 
 /// No generation comes after it.
 const LAST: u32 = 4_294_967_295;
@@ -122,9 +123,9 @@ impl Bank {
 
 #[cfg(test)]
 mod tests {
-    use super::super::book::PART;
-    use super::super::call::What;
+    use super::super::bank::PART;
     use super::*;
+    use crate::store::lent::call::{What, ROOM};
     use image::Header;
 
     /// A bank of this size and generation, with a live record of 39 bytes and a dead one.
@@ -210,6 +211,6 @@ mod tests {
         };
         assert_eq!(out[..102], bank(200, 1)[..102]);
         assert_eq!((out[199], &out[200..204]), (0xFF, &b"3VVN"[..]));
-        assert!(out[500..].iter().all(|&b| b == super::super::call::ROOM));
+        assert!(out[500..].iter().all(|&b| b == ROOM));
     }
 }

@@ -6,7 +6,7 @@ use super::model::Reading;
 use super::view::Slot;
 
 #[derive(Clone, Copy, Default)]
-pub struct Tally {
+pub struct Counts {
     valid: u64,
     empty: u64,
     invalid: u64,
@@ -15,7 +15,7 @@ pub struct Tally {
     outside: [u64; 3],
 }
 
-impl Tally {
+impl Counts {
     pub fn banks(&self) -> u64 {
         self.valid + self.empty + self.invalid
     }
@@ -34,12 +34,12 @@ impl Tally {
         }
     }
 
-    pub fn since(&self, before: &Tally) -> Tally {
+    pub fn since(&self, before: &Counts) -> Counts {
         let mut outside = self.outside;
         for (now, before) in outside.iter_mut().zip(before.outside) {
             *now -= before;
         }
-        Tally {
+        Counts {
             valid: self.valid - before.valid,
             empty: self.empty - before.empty,
             invalid: self.invalid - before.invalid,
@@ -49,7 +49,7 @@ impl Tally {
     }
 }
 
-impl Display for Tally {
+impl Display for Counts {
     fn fmt(&self, f: &mut Formatter) -> fmt::Result {
         let (banks, [size, name, sum]) = (self.banks(), self.outside);
         let equal = banks - size - name - sum;
@@ -68,17 +68,17 @@ mod tests {
 
     #[test]
     fn banks_are_counted_by_what_they_are() {
-        let mut tally = Tally::default();
-        tally.count(&model::read(&[0xFF; 65_536]));
-        let before = tally;
-        tally.count(&model::read(&[0; 65_536]));
+        let mut counts = Counts::default();
+        counts.count(&model::read(&[0xFF; 65_536]));
+        let before = counts;
+        counts.count(&model::read(&[0; 65_536]));
         let header = image::Header {
             size: 7,
             ..image::Header::default()
         };
-        tally.count(&model::read(&image::bank(&header, &[])));
-        let since = tally.since(&before);
-        assert_eq!((tally.banks(), since.banks(), since.invalid), (3, 2, 2));
+        counts.count(&model::read(&image::bank(&header, &[])));
+        let since = counts.since(&before);
+        assert_eq!((counts.banks(), since.banks(), since.invalid), (3, 2, 2));
         assert!(since.to_string().contains("1 equal to the Rust"));
         assert!(since.to_string().contains("1 by size, 0 by name"));
     }

@@ -5,12 +5,12 @@ use std::fmt::Write;
 
 use image::BANK;
 
-use super::call::{Call, What};
-use super::lent::Standing;
-use super::run::Run;
-use super::state::STATE;
+use super::input::Run;
 use crate::partition::smallest as banks;
 use crate::shrink::fewer;
+use crate::store::lent::call::{Call, What};
+use crate::store::lent::state::STATE;
+use crate::store::lent::Standing;
 
 /// Changes tried for one run, so that a large one ends in seconds.
 const TRIES: usize = 3_000;

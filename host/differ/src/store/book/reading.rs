@@ -2,7 +2,7 @@
 
 use image::{Header, Record};
 
-use super::book::{Bank, Slot};
+use super::bank::{Bank, Slot};
 use crate::partition::view;
 
 /// A slot as the model of banks reads it.

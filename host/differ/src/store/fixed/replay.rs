@@ -5,11 +5,12 @@ use std::fmt::Write;
 
 use image::BANK;
 
-use super::call::{Answer, Call, What};
-use super::fixed;
-use super::flash::erase;
-use super::run::{within, Run};
-use super::rust::Rust;
+use super::pieces::Named;
+use crate::store::lent::call::{Answer, Call, What};
+use crate::store::run::domain::within;
+use crate::store::run::flash::erase;
+use crate::store::run::Run;
+use crate::store::rust::Rust;
 
 const HEAD: &str = "\
 # Runs of the store with the answers of asahi-nvram's v3.rs, built unchanged (host/oracle).
@@ -37,19 +38,13 @@ const HEAD: &str = "\
 #   W CRC              the work area after it, N times 131,072 bytes
 ";
 
-/// The runs, for the port to be held against too.
-pub fn runs() -> Vec<Run> {
-    let list = fixed::list();
-    list.into_iter().map(|(_, run)| run).collect()
-}
-
-/// The whole list with the oracle's answers.
-pub fn text() -> Result<String, String> {
+/// The list with the oracle's answers.
+pub fn text(list: &[Named]) -> Result<String, String> {
     let mut out = HEAD.to_string();
-    for (name, run) in fixed::list() {
+    for (name, run) in list {
         let place = |fault: String| format!("{name}: {fault}");
         out.push_str(&format!("R {name}\n{}", image_lines(&run.image)));
-        out.push_str(&answers(&run).map_err(place)?);
+        out.push_str(&answers(run).map_err(place)?);
     }
     Ok(out)
 }
@@ -154,11 +149,11 @@ fn repeated(value: &[u8]) -> String {
 mod tests {
     use super::*;
 
-    const KEPT: &str = include_str!("../../../../crates/replay/stdin");
+    const KEPT: &str = include_str!("../../../../../crates/replay/stdin");
 
     #[test]
     fn the_list_in_the_repository_is_the_one_made_here() {
-        let made = text().unwrap();
+        let made = super::super::text().unwrap();
         let mut lines = made.lines().zip(KEPT.lines());
         assert_eq!(lines.find(|(made, kept)| made != kept), None);
         assert_eq!(made.len(), KEPT.len());

@@ -2,13 +2,13 @@
 
 use image::RECORD;
 
-use super::book::Book;
-use super::call::{Answer, Call, What};
+use super::counts::Counts;
 use super::flash::{erase, reopen, reopen_rust, Flash};
-use super::lent::Lent;
-use super::state::State;
-use super::tally::Tally;
 use super::wear::Wear;
+use crate::store::book::Book;
+use crate::store::lent::call::{Answer, Call, What};
+use crate::store::lent::state::State;
+use crate::store::lent::Lent;
 
 pub struct Watch {
     /// As the port's answers make it, and as the Rust's do.
@@ -38,7 +38,7 @@ impl Watch {
         port: &Answer,
         rust: Option<&Answer>,
         after: (&mut Book, &mut Lent),
-        tally: &mut Tally,
+        counts: &mut Counts,
     ) -> Result<(), String> {
         match &call.what {
             What::Insert(value) if port.changes() => {
@@ -46,7 +46,7 @@ impl Watch {
                 self.wear.inserted(size);
                 Ok(())
             }
-            What::Commit(_) => self.committed(port, rust, after, tally),
+            What::Commit(_) => self.committed(port, rust, after, counts),
             _ => Ok(()),
         }
     }
@@ -56,7 +56,7 @@ impl Watch {
         port: &Answer,
         rust: Option<&Answer>,
         (book, lent): (&mut Book, &mut Lent),
-        tally: &mut Tally,
+        counts: &mut Counts,
     ) -> Result<(), String> {
         self.counted(port, lent)?;
         self.ended |= matches!(port, Answer::Commit(12, ..));
@@ -65,7 +65,7 @@ impl Watch {
         };
         let (live, size) = (bank.live(), bank.header.size as usize);
         if let Some(pair) = self.wear.committed(live, size, erase(port))? {
-            *tally += Tally::paired(pair);
+            *counts += Counts::paired(pair);
         }
         self.port.carry_out(port)?;
         if let Some(rust) = rust {
@@ -74,11 +74,11 @@ impl Watch {
         if self.requests == 0 || port.written().is_none() {
             return Ok(());
         }
-        tally.reopened += 1;
+        counts.reopened += 1;
         let again = reopen(&self.port, book, lent)?;
         if rust.is_some() {
             let asked = reopen_rust(&self.rust, book, &again)?;
-            tally.rust_reopened += u64::from(asked);
+            counts.rust_reopened += u64::from(asked);
         }
         Ok(())
     }

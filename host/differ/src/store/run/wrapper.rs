@@ -2,11 +2,11 @@
 
 use feqyondil::{Kind, NotCommitted, Refusal, Store, VarType};
 
-use super::book::Book;
-use super::call::{Answer, Call, What, ROOM};
-use super::run::Run;
-use super::same::{same_state, same_work};
-use super::state::{Entry, State, EMPTY, ENTRIES, INVALID, VALID};
+use super::input::Run;
+use crate::store::book::Book;
+use crate::store::lent::call::{Answer, Call, What, ROOM};
+use crate::store::lent::same::{same_state, same_work};
+use crate::store::lent::state::{Entry, State, EMPTY, ENTRIES, INVALID, VALID};
 
 /// Runs it by `Store` and holds it against 01, which the calls behind it are held against too.
 pub fn compare(run: &Run) -> Result<(), String> {

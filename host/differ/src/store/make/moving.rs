@@ -2,14 +2,14 @@
 
 use image::{Header, Record, BANK, HEADER, RECORD, SYSTEM_GUID};
 
-use super::book::{Bank, Book, LIVE};
-use super::call::{Call, What};
-use super::lent::Standing;
-use super::make;
-use super::run::Run;
+use super::random;
 use crate::partition::damage;
 use crate::partition::make::Made;
 use crate::rng::Rng;
+use crate::store::book::{Bank, Book, LIVE};
+use crate::store::lent::call::{Call, What};
+use crate::store::lent::Standing;
+use crate::store::run::Run;
 
 /// Two banks are likely, so that the same one is erased again.
 const COUNTS: [usize; 16] = [1, 1, 1, 2, 2, 2, 2, 2, 2, 3, 3, 3, 4, 5, 9, 16];
@@ -42,7 +42,7 @@ fn image(rng: &mut Rng) -> Vec<u8> {
             4 => damage::junk(rng),
             _ => {
                 let lower = generation.saturating_sub(rng.below(3) as u32);
-                make::valid(rng, lower, false).bank
+                random::valid(rng, lower, false).bank
             }
         });
     }
@@ -112,7 +112,7 @@ fn record(rng: &mut Rng, most: usize) -> Record {
     let len = rng.below(most.min(400) + 1);
     Record {
         value: rng.bytes(len),
-        ..make::record(rng)
+        ..random::record(rng)
     }
 }
 
@@ -137,12 +137,12 @@ fn calls(rng: &mut Rng, mut book: Book) -> Vec<Call> {
 fn call(rng: &mut Rng, book: &mut Book, over: bool) -> Call {
     let whole = book.slots.len() * BANK;
     match (rng.below(20), book.active_bank()) {
-        (0..=6, _) => Call::commit(make::output(rng, BANK)),
+        (0..=6, _) => Call::commit(random::output(rng, BANK)),
         (7..=15, Some(bank)) => insert(rng, bank, over),
-        (16, _) => Call::whole(make::output(rng, whole)),
+        (16, _) => Call::whole(random::output(rng, whole)),
         (17, Some(bank)) => remove(rng, bank),
         (18, Some(bank)) => found(rng, bank),
-        _ if over => make::call(rng, Some(book)),
+        _ if over => random::call(rng, Some(book)),
         (_, Some(bank)) => insert(rng, bank, over),
         _ => Call::new(What::Lookup, b"a", 0),
     }
@@ -151,7 +151,7 @@ fn call(rng: &mut Rng, book: &mut Book, over: bool) -> Call {
 /// An insert that leaves the live records within the size unless they may be `over`; a remove
 /// where there is no room for one.
 fn insert(rng: &mut Rng, bank: &Bank, over: bool) -> Call {
-    let key = make::known_key(rng, &bank.records);
+    let key = random::known_key(rng, &bank.records);
     let typ = rng.pick(&[0, 1]);
     let record = (RECORD + key.len() + 1) as isize;
     let usable = bank.usable as isize - bank.total() as isize - record;
@@ -185,7 +185,7 @@ fn remove(rng: &mut Rng, bank: &Bank) -> Call {
 
 /// A lookup, of either kind.
 fn found(rng: &mut Rng, bank: &Bank) -> Call {
-    let key = make::known_key(rng, &bank.records);
+    let key = random::known_key(rng, &bank.records);
     let room = rng.below(100);
     let what = match rng.below(2) {
         0 => What::Lookup,
@@ -196,9 +196,9 @@ fn found(rng: &mut Rng, bank: &Bank) -> Call {
 
 #[cfg(test)]
 mod tests {
-    use super::super::call::Answer;
-    use super::super::state::{State, VALID};
     use super::*;
+    use crate::store::lent::call::Answer;
+    use crate::store::lent::state::{State, VALID};
     use image::COMMON_GUID;
 
     /// How often something was met.

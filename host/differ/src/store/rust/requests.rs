@@ -4,7 +4,7 @@ use std::io;
 
 use image::BANK;
 
-use super::call::{Asked, NO_REQUEST};
+use crate::store::lent::call::{Asked, NO_REQUEST};
 
 /// A writer that keeps what is asked, and refuses nothing.
 #[derive(Default)]

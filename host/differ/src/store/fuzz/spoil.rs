@@ -2,10 +2,10 @@
 
 use image::{number, put_number, BANK, HEADER, RECORD};
 
-use super::book::{size, Bank, Book, Slot, PART};
-use super::fuzz::Case;
-use super::state::{entry_at, total_at, STATE};
+use super::case::Case;
 use crate::rng::Rng;
+use crate::store::book::{size, Bank, Book, Slot, PART};
+use crate::store::lent::state::{entry_at, total_at, STATE};
 
 /// Numbers at which a check changes its mind.
 const NUMBERS: [u32; 16] = [
@@ -186,9 +186,9 @@ fn shorten(rng: &mut Rng, bank: &Bank, case: &mut Case, i: usize) {
 
 #[cfg(test)]
 mod tests {
-    use super::super::call::{Call, What};
-    use super::super::sound;
     use super::*;
+    use crate::store::book::sound;
+    use crate::store::lent::call::{Call, What};
     use image::{Header, Record};
 
     #[test]

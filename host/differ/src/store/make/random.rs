@@ -2,14 +2,14 @@
 
 use image::{Header, Record, BANK, COMMON_GUID, HEADER, RECORD, SYSTEM_GUID};
 
-use super::book::{Book, PART};
-use super::call::{Call, What};
-use super::lent::Standing;
-use super::run::Run;
-use super::state::STATE;
 use crate::partition::damage;
 use crate::partition::make::{self, Made};
 use crate::rng::Rng;
+use crate::store::book::{Book, PART};
+use crate::store::lent::call::{Call, What};
+use crate::store::lent::state::STATE;
+use crate::store::lent::Standing;
+use crate::store::run::Run;
 
 /// Few keys, so that a bank has several records of one.
 const KEYS: [&[u8]; 6] = [b"", b"a", b"b", b"rate", b"\0", b"\xFF\xFF\xFF"];
@@ -199,25 +199,25 @@ fn value(rng: &mut Rng, rooms: [usize; 2], key: usize) -> Vec<u8> {
 
 #[cfg(test)]
 mod tests {
-    use super::super::tally::Tally;
     use super::*;
+    use crate::store::run::counts::Counts;
 
     #[test]
     fn runs_reach_every_refusal() {
         let mut rng = Rng::new(5);
-        let mut all = Tally::default();
+        let mut all = Counts::default();
         for _ in 0..300 {
             let run = run(&mut rng);
             let mut book = run.opened();
-            let mut tally = Tally::opened(&book);
+            let mut counts = Counts::opened(&book);
             for call in &run.calls {
                 let said = match &mut book {
                     Ok(book) => book.answer(call),
                     Err(_) => call.refused(6),
                 };
-                tally.called(call, &said, true);
+                counts.called(call, &said, true);
             }
-            all += tally;
+            all += counts;
         }
         let reached = |counts: &[u64], at: &[usize]| at.iter().all(|&i| counts[i] > 0);
         assert!(reached(&all.runs, &[0, 3, 4, 6]), "{all}");

@@ -3,15 +3,15 @@
 use std::fmt::{self, Display, Formatter};
 use std::ops::AddAssign;
 
-use super::book::Book;
-use super::call::{Answer, Call, What};
 use super::wear::Pair;
+use crate::store::book::Book;
+use crate::store::lent::call::{Answer, Call, What};
 
 /// Refusals go up to 13.
 const NUMBERS: usize = 14;
 
 #[derive(Clone, Copy, Debug, Default, PartialEq)]
-pub struct Tally {
+pub struct Counts {
     /// By the opening's number.
     pub runs: [u64; NUMBERS],
     pub banks: u64,
@@ -36,20 +36,20 @@ pub struct Tally {
     pub rust_calls: u64,
 }
 
-impl Tally {
+impl Counts {
     pub fn opened(book: &Result<Book, u32>) -> Self {
-        let mut tally = Tally::default();
-        tally.runs[book.as_ref().err().map_or(0, |&n| n as usize)] = 1;
-        tally.banks = book.as_ref().map_or(0, |b| b.slots.len() as u64);
-        tally
+        let mut counts = Counts::default();
+        counts.runs[book.as_ref().err().map_or(0, |&n| n as usize)] = 1;
+        counts.banks = book.as_ref().map_or(0, |b| b.slots.len() as u64);
+        counts
     }
 
     /// Of a pair that the bound asks something of.
     pub fn paired(pair: Pair) -> Self {
-        Tally {
+        Counts {
             bounded: 1,
             fewest: Some(pair),
-            ..Tally::default()
+            ..Counts::default()
         }
     }
 
@@ -88,8 +88,8 @@ impl Tally {
     }
 }
 
-impl AddAssign for Tally {
-    fn add_assign(&mut self, more: Tally) {
+impl AddAssign for Counts {
+    fn add_assign(&mut self, more: Counts) {
         let add = |to: &mut [u64], more: &[u64]| {
             to.iter_mut().zip(more).for_each(|(a, b)| *a += b);
         };
@@ -109,7 +109,7 @@ impl AddAssign for Tally {
     }
 }
 
-impl Display for Tally {
+impl Display for Counts {
     fn fmt(&self, f: &mut Formatter) -> fmt::Result {
         let [insert, remove, lookup, value, commit, whole] = self.calls;
         write!(f, "{} openings", self.all_runs())?;
@@ -147,12 +147,12 @@ mod tests {
 
     #[test]
     fn calls_are_counted_by_what_became_of_them() {
-        let mut tally = Tally::opened(&Err(4));
+        let mut counts = Counts::opened(&Err(4));
         let lookup = Call::new(What::Lookup, b"", 0);
-        tally.called(&lookup, &lookup.refused(6), false);
-        tally.called(&lookup, &lookup.found(1, b"a"), true);
-        let mut both = tally;
-        both += tally;
+        counts.called(&lookup, &lookup.refused(6), false);
+        counts.called(&lookup, &lookup.found(1, b"a"), true);
+        let mut both = counts;
+        both += counts;
         let text = both.to_string();
         assert!(text.starts_with("2 openings (refused: 2 with 4)"), "{text}");
         assert!(text.contains("4 calls (refused: 2 with 6): "), "{text}");

@@ -2,8 +2,8 @@
 
 use image::{Header, Record, BANK};
 
-use super::call::{Call, What};
-use super::run::Run;
+use crate::store::lent::call::{Call, What};
+use crate::store::run::Run;
 
 /// An image to make: whole banks, and bytes more or less.
 pub struct Edge {

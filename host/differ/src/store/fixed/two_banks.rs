@@ -3,10 +3,10 @@
 
 use image::{Header, Record, BANK, HEADER, RECORD};
 
-use super::call::Call;
-use super::fixed::{held, put};
-use super::run::Run;
-use super::wear::Pair;
+use super::pieces::{held, put};
+use crate::store::lent::call::Call;
+use crate::store::run::wear::Pair;
+use crate::store::run::Run;
 
 /// What header and live records come to at every commit; 01 calls it L.
 const LIVE: usize = 8_192;
@@ -56,20 +56,20 @@ pub fn measured(pair: Option<Pair>) -> Result<Pair, String> {
 
 #[cfg(test)]
 mod tests {
-    use super::super::faulty::{Committed, Faulty};
-    use super::super::lent::Port;
-    use super::super::run::compare;
-    use super::super::state::usable_at;
     use super::*;
+    use crate::store::faulty::{Committed, Faulty};
+    use crate::store::lent::state::usable_at;
+    use crate::store::lent::Port;
+    use crate::store::run::compare;
     use image::put_number;
 
     #[test]
     fn the_run_meets_the_bound_exactly() {
         let run = run();
-        let tally = compare(&run, &Port).unwrap();
-        assert_eq!((tally.moves, tally.erases, tally.bounded), (3, 3, 1));
-        assert_eq!(tally.rust_calls, run.calls.len() as u64);
-        let pair = measured(tally.fewest).unwrap();
+        let counts = compare(&run, &Port).unwrap();
+        assert_eq!((counts.moves, counts.erases, counts.bounded), (3, 3, 1));
+        assert_eq!(counts.rust_calls, run.calls.len() as u64);
+        let pair = measured(counts.fewest).unwrap();
         assert_eq!(pair.inserted, LEAST);
     }
 

@@ -1,6 +1,6 @@
 //! What the Rust's store keeps private, as its Debug tells it.
 
-use super::state::{EMPTY, INVALID, VALID};
+use crate::store::lent::state::{EMPTY, INVALID, VALID};
 
 /// The kind of every slot, the usable of every Valid bank, the active slot.
 #[derive(Debug, PartialEq)]

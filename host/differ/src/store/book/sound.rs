@@ -2,10 +2,11 @@
 
 use image::{is_erased, BANK, HEADER};
 
-use super::book::{Bank, Book, Slot, PART};
+use super::bank::{Bank, Slot, PART};
+use super::list::Book;
 use super::reading::{header, record};
-use super::state::{Entry, State, EMPTY, ENTRIES, INVALID, VALID};
 use crate::partition::written;
+use crate::store::lent::state::{Entry, State, EMPTY, ENTRIES, INVALID, VALID};
 
 /// The book, or nothing where a call is to be refused with 6.
 pub fn book(state: &[u8], work: &[u8]) -> Option<Book> {

@@ -2,12 +2,12 @@
 
 use image::{number, put_number, HEADER, RECORD};
 
-use super::book::PART;
-use super::call::What;
-use super::fuzz::Case;
-use super::state::{total_at, Entry, State, STATE};
+use super::case::Case;
 use crate::partition::smallest::shown;
 use crate::shrink::shrink;
+use crate::store::book::PART;
+use crate::store::lent::call::What;
+use crate::store::lent::state::{total_at, Entry, State, STATE};
 
 /// A work area with more bytes in it than these is not searched byte by byte.
 const SEARCHED: usize = 2_000;

@@ -1,0 +1,115 @@
+//! Inserts, removes and lookups, by 'Edits and lookups' and 'Refusals' in 01.
+
+use image::{Record, COMMON_GUID, HEADER, RECORD, SYSTEM_GUID};
+
+use super::bank::{size, Bank, Slot, LIVE, PART};
+use super::list::Book;
+use crate::store::lent::call::{Answer, Call, What};
+
+const DEAD: u8 = 0x7C;
+
+impl Book {
+    pub fn edit(&mut self, call: &Call) -> Answer {
+        let Some(bank) = self.active_bank() else {
+            return call.refused(7);
+        };
+        match &call.what {
+            What::Insert(value) => {
+                let record = fresh(call, value);
+                if bank.total() + size(&record) > PART {
+                    return call.refused(8);
+                }
+                bank.kill(call);
+                bank.records.push(record);
+            }
+            _ => bank.kill(call),
+        }
+        Answer::Number(0)
+    }
+
+    pub fn lookup(&self, call: &Call) -> Answer {
+        let Slot::Valid(bank) = &self.slots[self.active] else {
+            return call.refused(7);
+        };
+        let Some(at) = bank.records.iter().position(|r| matches(r, call)) else {
+            return call.refused(0);
+        };
+        let before: usize = bank.records[..at].iter().map(size).sum();
+        let found = &bank.records[at];
+        let name = found.key.len() + 1;
+        let place = self.active * PART + HEADER + before + RECORD + name;
+        call.found(place, &found.value)
+    }
+}
+
+impl Bank {
+    fn kill(&mut self, call: &Call) {
+        let live = self.records.iter_mut().filter(|r| matches(r, call));
+        live.for_each(|record| record.state = DEAD);
+    }
+}
+
+/// A live record of the call's key and type.
+fn matches(record: &Record, call: &Call) -> bool {
+    let system = record.guid == SYSTEM_GUID;
+    record.state == LIVE && system == (call.typ != 0) && record.key == call.key
+}
+
+/// The record that an insert appends.
+fn fresh(call: &Call, value: &[u8]) -> Record {
+    Record {
+        state: LIVE,
+        reserved: 0,
+        attributes: 0,
+        guid: if call.typ == 0 {
+            COMMON_GUID
+        } else {
+            SYSTEM_GUID
+        },
+        key: call.key.clone(),
+        closing: 0,
+        value: value.to_vec(),
+    }
+}
+
+#[cfg(test)]
+mod tests {
+    use super::*;
+    use image::{Header, BANK};
+
+    /// A bank with two live records of one key, behind what is before it.
+    fn opened(before: &[u8], generation: u32) -> Book {
+        let header = Header {
+            generation,
+            ..Header::default()
+        };
+        let records = [Record::live(b"k", b"v"), Record::live(b"k", b"w")];
+        let image = [before, &image::bank(&header, &records)].concat();
+        Book::open(&image, image.len() / BANK * PART).unwrap()
+    }
+
+    #[test]
+    fn edits_do_as_said() {
+        let mut book = opened(&[], 1);
+        let call = |what| Call::new(what, b"k", 1);
+        let place = 24 + 36 + 2;
+        let lookup = call(What::Lookup);
+        assert_eq!(book.answer(&lookup), Answer::Lookup(0, [1, place, 1]));
+        let room = PART - 24 - 2 * 39;
+        let insert = |len| call(What::Insert(vec![0; len]));
+        assert_eq!(book.answer(&insert(room - 37)), Answer::Number(8));
+        assert_eq!(book.answer(&insert(room - 38)), Answer::Number(0));
+        let place = place + 2 * 39;
+        assert_eq!(
+            book.answer(&lookup),
+            Answer::Lookup(0, [1, place, (room - 38) as u64])
+        );
+        assert_eq!(book.state().entries[0].total as usize, PART);
+        book.answer(&call(What::Remove));
+        assert_eq!(book.answer(&lookup), Answer::Lookup(0, [0; 3]));
+        let states = book.active_bank().unwrap().records.iter().map(|r| r.state);
+        assert_eq!(states.collect::<Vec<_>>(), [DEAD; 3]);
+        let mut other = opened(&[0xFF; BANK], 0);
+        assert_eq!(other.answer(&lookup), Answer::Lookup(7, [0; 3]));
+    }
+}
