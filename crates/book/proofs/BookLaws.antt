@@ -1,12 +1,20 @@
--- Slots of a well-formed book, one at a time: read, replaced, and the size of a part.
-use Prim.Native.Nat.{ℕ, zero, suc, _-_, _≤_}
-use mathlib.Core.Path.{_≡_, refl, _∙_}
+-- The size of a part, and the slots of a well-formed book, one at a time: read and replaced.
+use Prim.Native.Nat.{ℕ, zero, suc, _*_, _≤_}
+use mathlib.Core.Path.{_≡_, refl, ap, _∙_}
 use mathlib.Core.List.{List, [], _∷_}
 use lib.ListN.{getD, set, length-set}
 use Rattle.bank.specs.Bank.{Bank, Slot, invalid, valid}
 use Rattle.bank.specs.Totals.{total}
 use Rattle.bank.specs.WellFormed.{FineBank}
 use Rattle.book.specs.Book.{partSize, FineSlot, Book, FineSlots, FineBook, withActive}
+
+pub part-size : partSize ≡ 131072
+unfolding partSize
+part-size = refl
+
+-- where a part begins, in the number that the code has
+pub part-times : (i : ℕ) → i * partSize ≡ i * 131072
+part-times i = ap (λ (n : ℕ). i * n) part-size
 
 pub fine-at : (ss : List Slot) (i : ℕ) → FineSlots ss → FineSlot (getD ss i invalid)
 fine-at [] i f = tt
@@ -27,7 +35,3 @@ fine-with b k f g t =
       long = length-set (b .slots) (b .active) (valid k) ∙ f .long;
       slots-fine = fine-set (b .slots) (b .active) (valid k) (f .slots-fine) (g, t);
     }
-
-pub part-size : partSize ≡ 131072
-unfolding partSize
-part-size = refl

@@ -21,7 +21,7 @@ use Rattle.book.specs.Book.{partSize, FineSlot, Book}
 use Rattle.book.specs.Commit.{move, judgeBank, raised, moved, nextBank, nextSlot, request, movedBook}
 use Rattle.book.specs.Call.{commit, committed, moves, overflows, moveIn, commitAs, step}
 use Rattle.book.specs.Tally.{counted}
-use Rattle.book.proofs.BookLaws.{part-size}
+use Rattle.book.proofs.BookLaws.{part-size, part-times}
 use Rattle.book.proofs.StepLaws.{moved-fine, next-inside}
 use Rattle.book.proofs.JudgeLaws.{move-grows}
 use Rattle.nvram.specs.declared.state.Kind.the-variants.{Empty, Valid}
@@ -34,7 +34,8 @@ use Rattle.nvram.specs.Contract.{Does}
 use Rattle.nvram.proofs.SlotLaws.{slot-length}
 use Rattle.nvram.proofs.LayoutLaws.{table-at, table-set}
 use Rattle.nvram.proofs.CallLaws.{does}
-use Rattle.nvram.proofs.ActiveLaws.{Sound, book, viewed, fine, active-is, n-is, banks-are, bank, bank-is, bank-fine, total-is, total-high, holds, place-within}
+use Rattle.nvram.proofs.ActiveLaws.{Sound, book, viewed, fine, active-is, n-is, banks-are, bank, bank-is, bank-fine, total-is, total-high, place-within}
+use Rattle.nvram.proofs.ReadyLaws.{records, here}
 use Rattle.nvram.proofs.PlaceLaws.{inside, workWith, laid-with, from-place, over-place, bank-out}
 use Rattle.moving.specs.Move.{Movable}
 use Rattle.commit.specs.Applied.{movedState}
@@ -62,9 +63,16 @@ module _ {s : Nvram} {w : List ℕ} {h : StoreHeader} {from to : ℕ} (m : Movin
   k = bank g v
 
   stand : Holds w from to (k .records)
+  unfolding records
   stand =
-      subst (λ (n : ℕ). Holds w n to (k .records)) (sym (m .from-is))
-      (subst (λ (n : ℕ). Holds w (s .active * 131072 + 24) n (k .records)) (sym (m .to-is)) (holds g v))
+      let p = sym (part-times (s .active)) in
+      here
+      (record {
+        sound = g;
+        valid = v;
+        from-is = m .from-is ∙ ap (λ (n : ℕ). n + 24) p;
+        to-is = m .to-is ∙ ap (λ (n : ℕ). n + activeEntry s .total) p;
+      })
 
   -- the bank after the active one
   abbrev pub next : ℕ

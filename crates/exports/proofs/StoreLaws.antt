@@ -19,8 +19,9 @@ use Rattle.nvram.specs.Layout.{view}
 use Rattle.nvram.specs.Ready.{activeEntry}
 use Rattle.nvram.specs.Contract.{call, Does, begun}
 use Rattle.nvram.proofs.CallLaws.{does-6, empty-valid, invalid-valid}
+use Rattle.nvram.proofs.ReadyLaws.{stand}
 use Rattle.nvram.proofs.ActiveLaws.{Sound, does-7}
-use Rattle.variables.proofs.EditLaws.{does-remove}
+use Rattle.variables.proofs.EditLaws.{removes}
 use Rattle.state_bytes.specs.declared.Loaded.{Loaded}
 use Rattle.state_bytes.specs.State.{stateSize, stored, readState, loaded}
 use Rattle.state_bytes.proofs.StateLaws.{bytes-back, read-state-fine}
@@ -32,7 +33,7 @@ stays : (key : List ℕ) (typ : VarType) (s : Nvram) (w : List ℕ) → Sound s 
     → s ≡ call (edit (remove key typ)) s w .state
 stays key typ s w g Empty e = does-7 g (edit (remove key typ)) tt (empty-valid _ e) .state
 stays key typ s w g Invalid e = does-7 g (edit (remove key typ)) tt (invalid-valid _ e) .state
-stays key typ s w g Valid e = does-remove g e key typ _ refl .state
+stays key typ s w g Valid e = removes (stand g e) key typ _ refl .state
 
 pub remove-stays : (key : List ℕ) (typ : VarType) (s : Nvram) (w : List ℕ) → Bytes w → length (s .banks) ≡ 16 → s ≡ call (edit (remove key typ)) s w .state
 remove-stays key typ s w k l = go (isSome (view s w)) refl
@@ -79,10 +80,10 @@ module _ (c : Call) (bs w o : List ℕ) (r : ℕ) (q o′ : List ℕ) where
     pub keeps : (w′ : List ℕ) → Bytes bs → Does c s w a x s w′ → Calls c bs w o r q bs w′ o′
     keeps w′ k d = calls s bs w′ d (sym (bytes-back bs s k e))
 
-pub removes : (key : List ℕ) (typ : VarType) (bs w : List ℕ) (s : Nvram) → readState bs ≡ some s → Bytes bs → Bytes w
+pub exported-remove : (key : List ℕ) (typ : VarType) (bs w : List ℕ) (s : Nvram) → readState bs ≡ some s → Bytes bs → Bytes w
     → (r : ℕ) (s′ : Nvram) (w′ : List ℕ) → Does (edit (remove key typ)) s w (edited r) [] s′ w′
     → Calls (edit (remove key typ)) bs w [] r [] bs w′ []
-removes key typ bs w s e k kw r s′ w′ d =
+exported-remove key typ bs w s e k kw r s′ w′ d =
     keeps (edit (remove key typ)) bs w [] r [] [] s e (edited r) [] (refl, refl, refl) w′ k
     (record { answer = d .answer; out = d .out; state = remove-stays key typ s w kw (read-state-fine bs s k e .banks-long); work = d .work })
 

@@ -14,7 +14,7 @@ ghost use mathlib.Core.List.{[]};
 ghost use lib.ListN.{length};
 ghost use Rattle.book.specs.Edit.{plain, insert, remove};
 ghost use Rattle.book.specs.Call.{edit, lookup, fetch, commit, wholeImage, number as numberOf};
-ghost use Rattle.variables.specs.Told.{lookupAnswer};
+ghost use Rattle.variables.specs.LookupAnswer.{lookupAnswer};
 ghost use Rattle.commit.specs.Applied.{applied};
 ghost use Rattle.exports.specs.Store.{varTypeOf, fieldsOf, Calls, ExportOpens};
 

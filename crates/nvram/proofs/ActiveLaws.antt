@@ -19,7 +19,7 @@ use Rattle.records.specs.Checked.{isSome}
 use Rattle.records.specs.Records.{Holds}
 use Rattle.book.specs.Book.{partSize, FineSlot, Book, FineBook, activeSlot}
 use Rattle.book.specs.Call.{Call, refusal, stay, step}
-use Rattle.book.proofs.BookLaws.{part-size, fine-at}
+use Rattle.book.proofs.BookLaws.{part-size, part-times, fine-at}
 use Rattle.nvram.specs.declared.state.Kind.the-variants.{Empty, Valid}
 use Rattle.nvram.specs.declared.state.Entry.{Entry}
 use Rattle.nvram.specs.declared.state.Nvram.{Nvram}
@@ -146,9 +146,9 @@ module _ {s : Nvram} {w : List ℕ} (g : Sound s w) where
     abbrev pub laidWith : List ℕ → ℕ → List ℕ
     laidWith x n = front ++ (x ++ (replicate (partSize - (24 + n)) 255 ++ rest))
 
-    pub front-length : length front ≡ s .active * 131072 + 24
+    pub front-length : length front ≡ s .active * partSize + 24
     front-length =
-        let m : book .active * partSize ≡ s .active * 131072 = ap₂ (λ (a b : ℕ). a * b) (sym active-is) part-size in
+        let m : book .active * partSize ≡ s .active * partSize = ap (λ (i : ℕ). i * partSize) (sym active-is) in
         length-append (places .pre) (headerBytes (bank .header)) ∙ omega (arith, places .len, length-header (bank .header))
 
     -- another bank of this header in the active slot
@@ -172,16 +172,16 @@ module _ {s : Nvram} {w : List ℕ} (g : Sound s w) where
         ∙ laid-out bank refl (bank-fine .0 .records-fine)
 
     -- the records stand where the code looks for them
-    pub holds : Holds w (s .active * 131072 + 24) (s .active * 131072 + activeEntry s .total) (bank .records)
+    pub holds : Holds w (s .active * partSize + 24) (s .active * partSize + activeEntry s .total) (bank .records)
     holds =
         let f = bank-fine .0 .records-fine in
         let t = activeEntry s .total in
-        let a = s .active * 131072 in
+        let a = s .active * partSize in
         let l : length (recordsBytes (bank .records)) ≡ sizes (bank .records) = length-records (bank .records) f in
         record {
           fine = f;
           low = omega (arith, total-is);
-          high = omega (arith, part-within, total-is, total-high);
+          high = omega (arith, part-within, part-times (s .active), total-is, total-high);
           is =
               ap (λ (x : List ℕ). take (a + t - (a + 24)) (drop (a + 24) x)) work-split
               ∙ ap (take (a + t - (a + 24))) (drop-at front (recordsBytes (bank .records) ++ (replicate (partSize - (24 + sizes (bank .records))) 255 ++ rest)) (a + 24) front-length)

@@ -4,6 +4,7 @@ use mathlib.Core.List.{List}
 use mathlib.Core.Bool.{cond}
 use lib.ListN.{getD}
 use Rattle.records.specs.Checked.{isSome}
+use Rattle.book.specs.Book.{partSize}
 use Rattle.nvram.specs.declared.ready.Ready.{Ready}
 use Rattle.nvram.specs.declared.ready.Ready.the-variants.{Refused, Records}
 use Rattle.nvram.specs.declared.state.Kind.{Kind}
@@ -19,7 +20,7 @@ activeEntry s = getD (s .banks) (s .active) (entry Empty 0 0)
 unfoldable pub byKind : Kind → Nvram → Ready
 byKind Empty s = Refused 7
 byKind Invalid s = Refused 7
-byKind Valid s = Records (s .active * 131072 + 24) (s .active * 131072 + activeEntry s .total)
+byKind Valid s = Records (s .active * partSize + 24) (s .active * partSize + activeEntry s .total)
 
 unfoldable pub readyOf : Nvram → List ℕ → Ready
 readyOf s w = cond (isSome (view s w)) (byKind (activeEntry s .kind) s) (Refused 6)

@@ -1,14 +1,15 @@
--- Inserts and removes on a sound state and work area, in the numbers that the code has.
-use Prim.Native.Nat.{ℕ, zero, suc, _+_, _*_, _-_, _≤_}
+-- Inserts and removes where the active bank's records stand from one place of the work area up to another: what the code's writes leave is the
+-- edited bank laid out (`work-less`, `work-more`), so the call does what the book says (`removes`, `no-room`, `inserts`).
+use Prim.Native.Nat.{ℕ, zero, suc, _+_, _-_, _≤_}
 use mathlib.Core.Path.{_≡_, refl, sym, ap, ap₂, _∙_}
 use mathlib.Core.List.{List, [], _∷_, _++_, append-assoc, append-nil}
 use mathlib.Core.Logic.{_≢_}
-use mathlib.Core.Bool.{cond}
+use mathlib.Core.Bool.{Bool, true, false, cond}
 use native.Mathlib.Omega.{arith}
 use lib.Dec.{leb}
 use lib.ListN.{length, set, replicate, length-append, length-replicate, replicate-append-replicate}
 use lib.Seq.{set-getD}
-use borrow.Author.Tests.{le-leb}
+use borrow.Author.Tests.{le-leb, leb-true}
 use Rattle.crc32.specs.Crc32.{Bytes}
 use Rattle.buffers.specs.Bytes.{over}
 use Rattle.buffers.proofs.OverLaws.{over-mid, length-over, over-over}
@@ -24,7 +25,7 @@ use Rattle.book.specs.Edit.{Manner, Edit, insert, remove, attributesOf, editedB
 use Rattle.book.specs.Book.{partSize, withActive, withRecords}
 use Rattle.book.specs.Call.{edit, edited, change, editAs, editBank, step}
 use Rattle.book.proofs.EditedRecords.{sizes-edited, fine-edited}
-use Rattle.book.proofs.BookLaws.{part-size}
+use Rattle.book.proofs.BookLaws.{part-size, part-times}
 use Rattle.nvram.specs.declared.state.Kind.the-variants.{Empty, Valid}
 use Rattle.nvram.specs.declared.state.Entry.{Entry}
 use Rattle.nvram.specs.declared.state.Nvram.{Nvram}
@@ -34,15 +35,18 @@ use Rattle.nvram.specs.Ready.{activeEntry}
 use Rattle.nvram.specs.Contract.{Does}
 use Rattle.nvram.proofs.LayoutLaws.{table-set}
 use Rattle.nvram.proofs.CallLaws.{does, by-valid}
+use Rattle.nvram.proofs.ReadyLaws.{Standing, records}
 use Rattle.nvram.proofs.ActiveLaws.{Sound, book, viewed, active-is, n-is, banks-are, in-slots, does-refuse, part-within, bank, bank-is, bank-fine, total-is, usable-is, total-high, front, rest, laidWith, front-length, laid-out, work-split}
 
-module _ {s : Nvram} {w : List ℕ} (g : Sound s w) (v : activeEntry s .kind ≡ Valid) where
-  -- the active entry, and where its records begin
-  abbrev pub now : Entry
-  now = activeEntry s
+module _ {s : Nvram} {w : List ℕ} {from to : ℕ} (k : Standing s w from to) where
+  abbrev g : Sound s w
+  g = k .sound
 
-  abbrev pub from : ℕ
-  from = s .active * 131072 + 24
+  abbrev v : activeEntry s .kind ≡ Valid
+  v = k .valid
+
+  abbrev now : Entry
+  now = activeEntry s
 
   abbrev rs : List Record
   rs = bank g v .records
@@ -51,11 +55,11 @@ module _ {s : Nvram} {w : List ℕ} (g : Sound s w) (v : activeEntry s .kind ≡
   rs-fine = bank-fine g v .0 .records-fine
 
   -- the state with another bank of this usable in the active slot
-  state-with : (k : Bank) (t u : ℕ) → t ≡ total k → u ≡ k .usable → setEntry s (s .active) (entry Valid t u) ≡ layState (withActive (book g) k) (s .tally)
+  state-with : (b : Bank) (t u : ℕ) → t ≡ total b → u ≡ b .usable → setEntry s (s .active) (entry Valid t u) ≡ layState (withActive (book g) b) (s .tally)
   unfolding entryOf
-  state-with k t u p q =
-      let e : set (s .banks) (s .active) (entry Valid t u) ≡ layTable (set (book g .slots) (book g .active) (valid k)) =
-      (λ i. set (banks-are g i) (active-is g i) (entry Valid (p i) (q i))) ∙ sym (table-set (book g .slots) (book g .active) (valid k) (in-slots g)) in
+  state-with b t u p q =
+      let e : set (s .banks) (s .active) (entry Valid t u) ≡ layTable (set (book g .slots) (book g .active) (valid b)) =
+      (λ i. set (banks-are g i) (active-is g i) (entry Valid (p i) (q i))) ∙ sym (table-set (book g .slots) (book g .active) (valid b) (in-slots g)) in
       λ i. record { n = n-is g i; active = active-is g i; tally = s .tally; banks = e i }
 
   -- an edit, by the number that refuses it
@@ -65,7 +69,7 @@ module _ {s : Nvram} {w : List ℕ} (g : Sound s w) (v : activeEntry s .kind ≡
     edit-step n q =
         by-valid (book g) (edit e) (editBank (book g) e) (bank g v) (bank-is g v) ∙ ap (editAs (book g) e (bank g v)) (sym q)
 
-    pub does-refused : (n : ℕ) → n ≡ refusedEdit e (bank g v) → n ≢ 0 → Does (edit e) s w (edited n) [] s w
+    does-refused : (n : ℕ) → n ≡ refusedEdit e (bank g v) → n ≢ 0 → Does (edit e) s w (edited n) [] s w
     unfolding editAs
     does-refused zero q h = absurd (h refl)
     does-refused (suc n) q h = does-refuse g (edit e) (suc n) (edit-step (suc n) q)
@@ -81,6 +85,9 @@ module _ {s : Nvram} {w : List ℕ} (g : Sound s w) (v : activeEntry s .kind ≡
         does (edit e) s w (book g) (change (book g) after) (edited 0) [] s′ w′ (viewed g) (edit-step 0 q)
         (record { answer = refl; out = refl; state = a; work = b })
 
+  from-length : length (front g v) ≡ from
+  from-length = front-length g v ∙ sym (k .from-is)
+
   module _ (key : List ℕ) (typ : VarType) where
     abbrev less : List Record
     less = removed key typ rs
@@ -95,7 +102,7 @@ module _ {s : Nvram} {w : List ℕ} (g : Sound s w) (v : activeEntry s .kind ≡
     unfolding layWork
     work-less =
         ap (over from (recordsBytes less)) (work-split g v)
-        ∙ over-mid (front g v) (recordsBytes rs) (recordsBytes less) (replicate (partSize - (24 + sizes rs)) 255 ++ rest g v) from (front-length g v) (length-records rs rs-fine ∙ sym less-length)
+        ∙ over-mid (front g v) (recordsBytes rs) (recordsBytes less) (replicate (partSize - (24 + sizes rs)) 255 ++ rest g v) from from-length (length-records rs rs-fine ∙ sym less-length)
         ∙ ap (laidWith g v (recordsBytes less)) (sym (sizes-removed key typ rs))
         ∙ sym (laid-out g v (withRecords (bank g v) less) refl less-fine)
 
@@ -108,36 +115,45 @@ module _ {s : Nvram} {w : List ℕ} (g : Sound s w) (v : activeEntry s .kind ≡
         (λ i. record { n = s .n; active = s .active; tally = s .tally; banks = q i })
         ∙ state-with (withRecords (bank g v) less) (now .total) (now .usable) (total-is g v ∙ ap (λ (n : ℕ). 24 + n) (sym (sizes-removed key typ rs))) (usable-is g v)
 
-    pub does-remove : (w′ : List ℕ) → w′ ≡ over from (recordsBytes less) w → Does (edit (remove key typ)) s w (edited 0) [] s w′
-    unfolding editedBy refusedEdit
-    does-remove w′ e = does-edit (remove key typ) refl s w′ state-less (e ∙ work-less)
+    pub removes : (w′ : List ℕ) → w′ ≡ over from (recordsBytes (removed key typ (records k))) w → Does (edit (remove key typ)) s w (edited 0) [] s w′
+    unfolding records editedBy refusedEdit
+    removes w′ e = does-edit (remove key typ) refl s w′ state-less (e ∙ work-less)
 
     module _ (m : Manner) (value : List ℕ) where
       abbrev new : Record
       new = fresh (attributesOf m) key value typ
 
+      abbrev size : ℕ
+      size = 37 + length key + length value
+
+      size-is : size ≡ sizeOf new
+      unfolding sizeOf
+      size-is = omega arith
+
       abbrev more : List Record
       more = less ++ (new ∷ [])
 
       -- what the code tests is whether the record has room
-      refused-by : refusedEdit (insert m key value typ) (bank g v) ≡ cond (leb (now .total + sizeOf new) 131072) 0 8
+      refused-by : refusedEdit (insert m key value typ) (bank g v) ≡ cond (leb (now .total + size) 131072) 0 8
       unfolding refusedEdit grows total
-      refused-by = ap₂ (λ (a b : ℕ). cond (leb (a + sizeOf new) b) 0 8) (sym (total-is g v)) part-size
+      refused-by =
+          ap₂ (λ (a b : ℕ). cond (leb (a + sizeOf new) b) 0 8) (sym (total-is g v)) part-size
+          ∙ ap (λ (i : ℕ). cond (leb (now .total + i) 131072) 0 8) (sym size-is)
 
-      pub does-8 : (n : ℕ) → n ≡ cond (leb (now .total + sizeOf new) 131072) 0 8 → n ≢ 0 → Does (edit (insert m key value typ)) s w (edited n) [] s w
-      does-8 n q h = does-refused (insert m key value typ) n (q ∙ sym refused-by) h
+      pub no-room : (n : ℕ) → n ≡ cond (leb (now .total + size) 131072) 0 8 → n ≢ 0 → Does (edit (insert m key value typ)) s w (edited n) [] s w
+      no-room n q h = does-refused (insert m key value typ) n (q ∙ sym refused-by) h
 
-      module _ (kb : Bytes key) (vb : Bytes value) (room : now .total + sizeOf new ≤ 131072) where
+      module _ (kb : Bytes key) (vb : Bytes value) (room : now .total + size ≤ 131072) where
         more-fine : FineRecords more
         unfolding editedBy grows
-        more-fine = fine-edited (insert m key value typ) rs (kb, vb) (omega (arith, room)) rs-fine
+        more-fine = fine-edited (insert m key value typ) rs (kb, vb) (omega (arith, room, size-is)) rs-fine
 
         more-sizes : sizes more ≡ sizes rs + sizeOf new
         unfolding editedBy grows
         more-sizes = sizes-edited (insert m key value typ) rs
 
         fits : 24 + sizes rs + sizeOf new ≤ partSize
-        fits = omega (arith, room, total-is g v, part-size)
+        fits = omega (arith, room, size-is, total-is g v, part-size)
 
         -- the fresh record takes bytes that were 0xFF
         work-old : w ≡ front g v ++ ((recordsBytes rs ++ replicate (sizeOf new) 255) ++ (replicate (partSize - (24 + sizes more)) 255 ++ rest g v))
@@ -168,30 +184,38 @@ module _ {s : Nvram} {w : List ℕ} (g : Sound s w) (v : activeEntry s .kind ≡
             ∙ omega
             (arith, length-records rs rs-fine, length-replicate {A = ℕ} (sizeOf new) 255, length-append (recordsBytes less) (recordBytes new), less-length, new-length) in
             ap (over from y) work-old
-            ∙ over-mid (front g v) old y (replicate (partSize - (24 + sizes more)) 255 ++ rest g v) from (front-length g v) l
+            ∙ over-mid (front g v) old y (replicate (partSize - (24 + sizes more)) 255 ++ rest g v) from from-length l
             ∙ ap (λ (x : List ℕ). laidWith g v x (sizes more)) (sym more-bytes)
             ∙ sym (laid-out g v (withRecords (bank g v) more) refl more-fine)
 
         -- the fresh record has room behind the others
-        pub room-behind : (w₁ : List ℕ) → w₁ ≡ over from (recordsBytes less) w → s .active * 131072 + now .total + sizeOf new ≤ length w₁
-        room-behind w₁ p =
-            omega
-            (arith, ap length p, length-over from (recordsBytes less) w (omega (arith, part-within g, total-high g v, less-length)), part-within g, room)
+        pub behind : (w₁ : List ℕ) → w₁ ≡ over from (recordsBytes (removed key typ (records k))) w → to + size ≤ length w₁
+        unfolding records
+        behind w₁ p =
+            let h : from + length (recordsBytes less) ≤ length w =
+            omega (arith, k .from-is, part-times (s .active), part-within g, total-high g v, less-length) in
+            omega (arith, ap length p, length-over from (recordsBytes less) w h, k .to-is, part-times (s .active), part-within g, room)
 
         -- the code's two writes
-        pub does-insert : (w₁ w₂ : List ℕ) (t : ℕ) (s′ : Nvram) → w₁ ≡ over from (recordsBytes less) w
-            → w₂ ≡ over (s .active * 131072 + now .total) (recordBytes new) w₁
-            → t ≡ now .total + sizeOf new
-            → s′ ≡ setEntry s (s .active) (entry Valid t (now .usable))
+        pub inserts : (w₁ w₂ : List ℕ) (s′ : Nvram) → w₁ ≡ over from (recordsBytes (removed key typ (records k))) w → w₂ ≡ over to (recordBytes new) w₁
+            → s′ ≡ setEntry s (s .active) (entry Valid (now .total + size) (now .usable))
             → Does (edit (insert m key value typ)) s w (edited 0) [] s′ w₂
-        unfolding editedBy total
-        does-insert w₁ w₂ t s′ p q r z =
-            let e : s .active * 131072 + now .total ≡ from + length (recordsBytes less) = omega (arith, total-is g v, less-length) in
+        unfolding records editedBy total
+        inserts w₁ w₂ s′ p q z =
+            let e : to ≡ from + length (recordsBytes less) = omega (arith, k .from-is, k .to-is, total-is g v, less-length) in
             let h : from + length (recordsBytes less) + length (recordBytes new) ≤ length w =
-            omega (arith, part-within g, room, total-is g v, less-length, new-length) in
+            omega (arith, e, k .to-is, part-times (s .active), part-within g, room, size-is, new-length) in
             let accepted : 0 ≡ refusedEdit (insert m key value typ) (bank g v) = sym (refused-by ∙ rw (le-leb _ _ room)) in
             does-edit (insert m key value typ) accepted s′ w₂
-            (z ∙ state-with (withRecords (bank g v) more) t (now .usable) (r ∙ omega (arith, total-is g v, more-sizes)) (usable-is g v))
+            (z ∙ state-with (withRecords (bank g v) more) (now .total + size) (now .usable) (omega (arith, total-is g v, more-sizes, size-is)) (usable-is g v))
             (q ∙ ap₂ (λ (i : ℕ) (x : List ℕ). over i (recordBytes new) x) e p
             ∙ over-over from (from + length (recordsBytes less)) (recordsBytes less) (recordBytes new) w refl h
             ∙ work-more)
+
+-- the number that the code answers for the room of a record
+pub room-of : (x n : ℕ) → n ≡ cond (leb x 131072) 0 8 → n ≡ 0 → x ≤ 131072
+room-of x n q e = go (leb x 131072) refl (sym e ∙ q)
+  where
+    go : (t : Bool) → leb x 131072 ≡ t → _≡_ {A = ℕ} 0 (cond t 0 8) → x ≤ 131072
+    go true p z = leb-true _ _ p
+    go false p z = absurd (omega arith)

@@ -1,3 +1,2 @@
 pub mod EditLaws
 pub mod LookupLaws
-pub mod StandingLaws

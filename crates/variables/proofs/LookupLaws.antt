@@ -20,7 +20,6 @@ use Rattle.records.specs.Checked.{isSome}
 use Rattle.records.specs.Records.{Holds, located}
 use Rattle.book.specs.Book.{partSize}
 use Rattle.book.specs.Call.{lookup, fetch, Answer, looked, handed, stay, stayWith, lookupBank, fetchBank, step}
-use Rattle.book.proofs.BookLaws.{part-size}
 use Rattle.nvram.specs.declared.state.Kind.{Kind}
 use Rattle.nvram.specs.declared.state.Kind.the-variants.{Empty, Invalid, Valid}
 use Rattle.nvram.specs.declared.state.Nvram.{Nvram}
@@ -28,10 +27,11 @@ use Rattle.nvram.specs.Layout.{view}
 use Rattle.nvram.specs.Ready.{activeEntry}
 use Rattle.nvram.specs.Contract.{call, Does}
 use Rattle.nvram.proofs.CallLaws.{does-6, does, empty-valid, invalid-valid, by-valid}
-use Rattle.nvram.proofs.ActiveLaws.{Sound, book, viewed, state-is, work-is, active-is, does-7, bank, bank-is, holds}
+use Rattle.nvram.proofs.ReadyLaws.{Standing, stand, records, here}
+use Rattle.nvram.proofs.ActiveLaws.{Sound, book, viewed, state-is, work-is, active-is, does-7, bank, bank-is}
 use Rattle.variables.specs.declared.lookup.Lookup.{Lookup}
 use Rattle.variables.specs.declared.lookup.Lookup.the-variants.{At, Nothing, Refused}
-use Rattle.variables.specs.Told.{lookupAnswer}
+use Rattle.variables.specs.LookupAnswer.{lookupAnswer}
 
 -- what is found lies in w, and is the value
 abbrev pub ValueStands : Option Found → List ℕ → List ℕ → Type 0
@@ -89,31 +89,37 @@ located-none : (o : Option Found) → L.the-variants.Nothing ≡ located o → l
 located-none none e = refl
 located-none (some f) e = let z : _≡_ {A = ℕ} 0 1 = cc in absurd (omega arith)
 
-module _ {s : Nvram} {w : List ℕ} (g : Sound s w) (v : activeEntry s .kind ≡ Valid) (key : List ℕ) (typ : VarType) where
+module _ {s : Nvram} {w : List ℕ} {from to : ℕ} (k : Standing s w from to) (key : List ℕ) (typ : VarType) where
+  abbrev g : Sound s w
+  g = k .sound
+
+  abbrev v : activeEntry s .kind ≡ Valid
+  v = k .valid
+
   abbrev found : Option Found
-  found = foundIn key typ (s .active * 131072 + 24) (bank g v .records)
+  found = foundIn key typ from (records k)
 
   looks : (a : Answer) → a ≡ looked 0 found → Does (lookup key typ) s w a [] s w
-  unfolding step lookupBank
+  unfolding records step lookupBank
   looks a e =
-      let m : s .active * 131072 ≡ book g .active * partSize = ap₂ (λ (i j : ℕ). i * j) (active-is g) (sym part-size) in
+      let m : from ≡ book g .active * partSize + 24 = k .from-is ∙ ap (λ (i : ℕ). i * partSize + 24) (active-is g) in
       does (lookup key typ) s w (book g) (stay (book g) (looked 0 (foundIn key typ (book g .active * partSize + 24) (bank g v .records)))) a [] s w (viewed g)
       (by-valid (book g) (lookup key typ) (lookupBank (book g) key typ) (bank g v) (bank-is g v))
       (record {
-        answer = e ∙ ap (λ (i : ℕ). looked 0 (foundIn key typ (i + 24) (bank g v .records))) m;
+        answer = e ∙ ap (λ (i : ℕ). looked 0 (foundIn key typ i (bank g v .records))) m;
         out = refl;
         state = state-is g;
         work = work-is g;
       })
 
-  pub does-at : (f : Found) → L.the-variants.At f ≡ located found → Does (lookup key typ) s w (lookupAnswer (At f)) [] s w
-  does-at f e = looks (lookupAnswer (At f)) (located-at found f e)
+  pub finds : (f : Found) → L.the-variants.At f ≡ located found → Does (lookup key typ) s w (lookupAnswer (At f)) [] s w
+  finds f e = looks (lookupAnswer (At f)) (located-at found f e)
 
-  pub does-nothing : L.the-variants.Nothing ≡ located found → Does (lookup key typ) s w (lookupAnswer Nothing) [] s w
-  does-nothing e = looks (lookupAnswer Nothing) (located-none found e)
+  pub finds-nothing : L.the-variants.Nothing ≡ located found → Does (lookup key typ) s w (lookupAnswer Nothing) [] s w
+  finds-nothing e = looks (lookupAnswer Nothing) (located-none found e)
 
-  fetches : Does (fetch key typ) s w handed (valueIn key typ (bank g v .records)) s w
-  unfolding step fetchBank
+  fetches : Does (fetch key typ) s w handed (valueIn key typ (records k)) s w
+  unfolding records step fetchBank
   fetches =
       does (fetch key typ) s w (book g) (stayWith (book g) handed (valueIn key typ (bank g v .records))) handed
       (valueIn key typ (bank g v .records)) s w (viewed g)
@@ -148,10 +154,9 @@ module _ (key : List ℕ) (typ : VarType) (s : Nvram) (w : List ℕ) (l : Lookup
   by-kind g Empty q = fetched-by 7 none [] (does-7 g (lookup key typ) tt (empty-valid _ q)) (does-7 g (fetch key typ) tt (empty-valid _ q)) refl
   by-kind g Invalid q = fetched-by 7 none [] (does-7 g (lookup key typ) tt (invalid-valid _ q)) (does-7 g (fetch key typ) tt (invalid-valid _ q)) refl
   by-kind g Valid q =
-      let rs = bank g q .records in
-      let from = s .active * 131072 + 24 in
-      fetched-by 0 (foundIn key typ from rs) (valueIn key typ rs) (looks g q key typ _ refl) (fetches g q key typ)
-      (found-stands key typ w from (s .active * 131072 + activeEntry s .total) rs (holds g q))
+      let k = stand g q in
+      fetched-by 0 (foundIn key typ (s .active * partSize + 24) (records k)) (valueIn key typ (records k)) (looks k key typ _ refl) (fetches k key typ)
+      (found-stands key typ w _ _ (records k) (here k))
 
   by-sound : (x : Bool) → isSome (view s w) ≡ x → Fetched key typ s w l
   by-sound false e = fetched-by 6 none [] (does-6 (lookup key typ) s w e) (does-6 (fetch key typ) s w e) refl

@@ -8,7 +8,7 @@ use records::find;
 ghost use mathlib.Core.List.{[]};
 ghost use Rattle.book.specs.Call.{lookup, fetch, handed};
 ghost use Rattle.nvram.specs.Contract.{Does};
-ghost use Rattle.variables.specs.Told.{lookupAnswer};
+ghost use Rattle.variables.specs.LookupAnswer.{lookupAnswer};
 
 // Found, nothing, or refused by a number.
 pub enum Lookup {

@@ -6,7 +6,7 @@ use borrow.Author.Needs.{needs}
 use Rattle.book.specs.Edit.{remove}
 use Rattle.book.specs.Call.{edit}
 use Rattle.exports.specs.Store.{varTypeOf}
-use Rattle.exports.proofs.StoreLaws.{loaded-none, loaded-some, calls-6, removes}
+use Rattle.exports.proofs.StoreLaws.{loaded-none, loaded-some, calls-6, exported-remove}
 use Rattle.exports.proofs.store.feqyondil_remove.Statement.{statement}
 use Rattle.exports.proofs.store.feqyondil_remove.Tie as tie
 
@@ -28,7 +28,7 @@ same-length c = search needs
 returns-2 : tie.Need-returns-2
 returns-2 c = let a = c .before .before .before .before .before .before .before .before .before .before .before .before .args in
     let t = c .before .before .before .var-type .ensures in
-    removes (a .key .now) (varTypeOf (a .typ)) (a .state .now) (a .work .now) _ (loaded-some _ _ (c .before .before .before .before .before .before .before .before .load .ensures) (not-false _ (c .before .before .before .before .before .before .if1 .left)))
+    exported-remove (a .key .now) (varTypeOf (a .typ)) (a .state .now) (a .work .now) _ (loaded-some _ _ (c .before .before .before .before .before .before .before .before .load .ensures) (not-false _ (c .before .before .before .before .before .before .if1 .left)))
     (λ i. omega (arith, c .before .before .before .before .before .before .before .before .before .before .before .shared-slice-known .given i)) (λ i. omega (arith, c .before .before .before .before .before .before .before .before .before .before .slice-known .given i)) _ _ _ (rw t at (c .before .before .remove-variable .ensures))
 
 pub feqyondil-remove-spec : {M : Type 1} → statement M

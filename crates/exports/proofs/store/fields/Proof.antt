@@ -1,6 +1,6 @@
 use mathlib.Core.Path.{sym, ap}
 use Rattle.variables.specs.declared.lookup.Lookup.{Lookup}
-use Rattle.variables.specs.Told.{lookupAnswer}
+use Rattle.variables.specs.LookupAnswer.{lookupAnswer}
 use Rattle.exports.specs.Store.{fieldsOf}
 use Rattle.exports.proofs.store.fields.Statement.{statement}
 use Rattle.exports.proofs.store.fields.Tie as tie

@@ -5,8 +5,8 @@ use borrow.Author.Needs.{needs}
 use Rattle.book.specs.Edit.{plain, insert}
 use Rattle.book.specs.Call.{edit}
 use Rattle.nvram.specs.Ready.{activeEntry}
-use Rattle.nvram.proofs.ReadyLaws.{Standing, standing, refused}
-use Rattle.variables.proofs.StandingLaws.{records, here, in-table, total-within, no-room, behind, inserts, room-of}
+use Rattle.nvram.proofs.ReadyLaws.{Standing, records, here, in-table, total-within, standing, refused}
+use Rattle.variables.proofs.EditLaws.{no-room, behind, inserts, room-of}
 use Rattle.variables.proofs.edit.insert_variable.Statement.{statement}
 use Rattle.variables.proofs.edit.insert_variable.Tie as tie
 

@@ -3,8 +3,8 @@ use lib.ListN.{length-map}
 use borrow.Author.Needs.{needs}
 use Rattle.book.specs.Edit.{remove}
 use Rattle.book.specs.Call.{edit}
-use Rattle.nvram.proofs.ReadyLaws.{Standing, standing, refused}
-use Rattle.variables.proofs.StandingLaws.{records, here, removes}
+use Rattle.nvram.proofs.ReadyLaws.{Standing, records, here, standing, refused}
+use Rattle.variables.proofs.EditLaws.{removes}
 use Rattle.variables.proofs.edit.remove_variable.Statement.{statement}
 use Rattle.variables.proofs.edit.remove_variable.Tie as tie
 

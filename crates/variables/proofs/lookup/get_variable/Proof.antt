@@ -3,8 +3,8 @@ use mathlib.Core.Path.{sym, _∙_}
 use lib.ListN.{length-map}
 use borrow.Author.Needs.{needs}
 use Rattle.book.specs.Call.{lookup}
-use Rattle.nvram.proofs.ReadyLaws.{Standing, standing, refused}
-use Rattle.variables.proofs.StandingLaws.{records, here, finds, finds-nothing}
+use Rattle.nvram.proofs.ReadyLaws.{Standing, records, here, standing, refused}
+use Rattle.variables.proofs.LookupLaws.{finds, finds-nothing}
 use Rattle.variables.proofs.lookup.get_variable.Statement.{statement}
 use Rattle.variables.proofs.lookup.get_variable.Tie as tie
 

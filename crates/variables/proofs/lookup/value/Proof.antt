@@ -2,7 +2,7 @@ use Prim.Native.Nat.{ℕ, _+_, _-_}
 use lib.ListN.{take, drop, length-map}
 use Rattle.book.specs.Call.{lookup}
 use Rattle.nvram.specs.Contract.{call}
-use Rattle.variables.specs.Told.{lookupAnswer}
+use Rattle.variables.specs.LookupAnswer.{lookupAnswer}
 use Rattle.variables.proofs.LookupLaws.{foundOf, fetch-at, fetch-none}
 use Rattle.variables.proofs.lookup.value.Statement.{statement}
 use Rattle.variables.proofs.lookup.value.Tie as tie

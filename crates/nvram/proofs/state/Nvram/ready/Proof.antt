@@ -5,7 +5,7 @@ use borrow.Author.Tests.{not-true, not-false}
 use Rattle.nvram.specs.declared.state.Kind.{Kind}
 use Rattle.nvram.specs.Ready.{byKind}
 use Rattle.nvram.proofs.ActiveLaws.{active-in}
-use Rattle.nvram.proofs.ReadyLaws.{ready-6, ready-as}
+use Rattle.nvram.proofs.ReadyLaws.{ready-6, ready-as, records-at}
 use Rattle.nvram.proofs.state.Nvram.ready.Statement.{statement}
 use Rattle.nvram.proofs.state.Nvram.ready.Tie as tie
 use borrow.Author.Needs.{needs}
@@ -57,9 +57,8 @@ returns-3 c = let a = c .before .before .before .before .before .before .args in
     sym (ap (λ (k : Kind). byKind k (a .t1)) (c .enum-told2 .given .1)) ∙ ready-as (a .t1) (a .work .now) (sym (c .before .before .before .before .is-sound .ensures) ∙ not-false _ (c .before .before .before .if1 .left))
 
 returns-4 : tie.Need-returns-4
-unfolding byKind
 returns-4 c = let a = c .before .before .before .before .before .before .before .args in
-    sym (ap (λ (k : Kind). byKind k (a .t1)) (c .before .enum-told3 .given .1)) ∙ ready-as (a .t1) (a .work .now) (sym (c .before .before .before .before .before .is-sound .ensures) ∙ not-false _ (c .before .before .before .before .if1 .left))
+    records-at (a .t1) ∙ sym (ap (λ (k : Kind). byKind k (a .t1)) (c .before .enum-told3 .given .1)) ∙ ready-as (a .t1) (a .work .now) (sym (c .before .before .before .before .before .is-sound .ensures) ∙ not-false _ (c .before .before .before .before .if1 .left))
 
 pub ready-spec : {M : Type 1} → statement M
 ready-spec =
