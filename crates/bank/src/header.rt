@@ -27,6 +27,9 @@ impl StoreHeader {
 
     pub const VERSION: u8 = 1;
 
+    // A size is of one bank.
+    pub const MOST_SIZE: u32 = 65536;
+
     pub fn parse(nvr: &[u8]) -> Head
         ensures { λ r. ⌜ r ≡ readHeader (now (nvr .entry)) ⌝ }
     {
@@ -44,7 +47,7 @@ impl StoreHeader {
         if size < Variable::STORE_HEADER_SIZE as u32 {
             return Head::Size;
         }
-        if 65536 < size {
+        if StoreHeader::MOST_SIZE < size {
             return Head::Size;
         }
         Head::Good(StoreHeader {

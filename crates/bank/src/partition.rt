@@ -180,14 +180,17 @@ fn write(nvr: &[u8], total: usize, out: &mut [u8])
 }
 
 impl Partition {
+    // A bank's bytes in an image.
+    pub const SIZE: usize = 65536;
+
     // The bank in the first 65,536 bytes lent.
     pub fn parse(nvr: &[u8]) -> Slot
         ensures { λ r. ⌜ r ≡ parsed (now (nvr .entry)) ⌝ }
     {
-        if nvr.len() < 65536 {
+        if nvr.len() < Partition::SIZE {
             return Slot::Short;
         }
-        read_slot(&nvr[0..65536])
+        read_slot(&nvr[0..Partition::SIZE])
     }
 
     // The same, and the bank as it would be written, with 0xFF up to the end of the part lent; a slot that isn't Valid is all 0xFF. Too few
@@ -195,14 +198,14 @@ impl Partition {
     pub fn serialize(nvr: &[u8], out: &mut [u8]) -> Slot
         ensures { λ r. ⌜ (r ≡ serializedSlot (now (nvr .entry)) (now (out .entry))) × (now (out .exit) ≡ serializedPart (now (nvr .entry)) (now (out .entry))) ⌝ }
     {
-        if out.len() < 65536 {
+        if out.len() < Partition::SIZE {
             return Slot::Short;
         }
         let slot = Partition::parse(nvr);
         match slot {
             Slot::Valid(p) => {
                 let total = p.total_used;
-                write(&nvr[0..65536], total, out);
+                write(&nvr[0..Partition::SIZE], total, out);
             }
             Slot::Short => {}
             Slot::Empty => {

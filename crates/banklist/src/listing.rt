@@ -18,7 +18,7 @@ ghost use Rattle.banklist.specs.Listing.{recordLines, bankLines, listedL
 ghost use lib.ListN.{length};
 
 // Bytes enough for any listing: a record of n bytes makes a line of at most 2 * n.
-pub(crate) const OUT: usize = 3 * 65536;
+pub(crate) const OUT: usize = 3 * Partition::SIZE;
 
 // The records' lines, walked in the bank's own bytes up to total.
 fn record_lines(out: &mut [u8], from: usize, nvr: &[u8], total: usize) -> usize
@@ -62,6 +62,6 @@ pub(crate) fn listing(nvr: &[u8], out: &mut [u8]) -> usize
         Slot::Short => put_all(out, 0, b"short\n"),
         Slot::Empty => put_all(out, 0, b"empty\n"),
         Slot::Invalid => put_all(out, 0, b"invalid\n"),
-        Slot::Valid(p) => bank_lines(out, &nvr[0..65536], p),
+        Slot::Valid(p) => bank_lines(out, &nvr[0..Partition::SIZE], p),
     }
 }

@@ -1,5 +1,6 @@
 // The commit: 01, 'A commit, from the entry down'.
 use bank::Head;
+use bank::Partition;
 use bank::StoreHeader;
 use bank::Variable;
 use moving::move_bank;
@@ -92,8 +93,8 @@ fn request(kind: Kind, i: usize) -> Erase
 {
     match kind {
         Kind::Empty => Erase::Nothing,
-        Kind::Invalid => Erase::At(i * Nvram::BANK),
-        Kind::Valid => Erase::At(i * Nvram::BANK),
+        Kind::Invalid => Erase::At(i * Partition::SIZE),
+        Kind::Valid => Erase::At(i * Partition::SIZE),
     }
 }
 
@@ -135,13 +136,13 @@ fn write(state: Nvram, work: &[u8], output: &mut [u8], size: usize, erase: Erase
     ensures { λ r. ⌜ (applied r ≡ committed 0 (requested erase) (state .active * 65536) size) × (r .length ≡ size) × (r .state ≡ state) × (now (output .exit) ≡ take size (drop (state .active * 131072) (now (work .entry))) ++ drop size (now (output .entry))) ⌝ }
 {
     let i = state.active as usize;
-    let part = i * Nvram::PART;
+    let part = i * Nvram::PART_SIZE;
     let end = part + size;
     buffers::copy(&work[part..end], output);
     Applied {
         number: 0,
         erase,
-        offset: i * Nvram::BANK,
+        offset: i * Partition::SIZE,
         length: size,
         state,
     }
@@ -163,7 +164,7 @@ fn move_on(
     let entry = state.banks[next];
     let kind = entry.kind;
     let erase = request(kind, next);
-    let total = move_bank(work, from, to, next * Nvram::PART, raised(header));
+    let total = move_bank(work, from, to, next * Nvram::PART_SIZE, raised(header));
     let after = moved(state, next, total, header.size, erase);
     if (header.size as usize) < total {
         return refused(after, 12, erase);
@@ -184,7 +185,7 @@ fn commit_active(
 {
     let i = state.active as usize;
     let entry = state.banks[i];
-    let part = i * Nvram::PART;
+    let part = i * Nvram::PART_SIZE;
     let from = part + Variable::STORE_HEADER_SIZE;
     let to = part + entry.total as usize;
     match judge(header, used, entry.usable < entry.total) {
@@ -202,7 +203,7 @@ pub fn apply(state: Nvram, work: &mut [u8], output: &mut [u8]) -> Applied
     if !checked.sound {
         return refused(state, 6, Erase::Nothing);
     }
-    if output.len() < Nvram::BANK {
+    if output.len() < Partition::SIZE {
         return refused(state, 5, Erase::Nothing);
     }
     let used = checked.used;
@@ -213,7 +214,7 @@ pub fn apply(state: Nvram, work: &mut [u8], output: &mut [u8]) -> Applied
         Kind::Empty => refused(state, 7, Erase::Nothing),
         Kind::Invalid => refused(state, 7, Erase::Nothing),
         Kind::Valid => {
-            let part = i * Nvram::PART;
+            let part = i * Nvram::PART_SIZE;
             match StoreHeader::parse(&work[part..]) {
                 Head::Good(header) => commit_active(state, work, output, header, used),
                 Head::Signature => refused(state, 6, Erase::Nothing),

@@ -72,7 +72,7 @@ pub fn move_bank(
     let bytes = header.serialize();
     buffers::copy(&bytes, &mut work[part..]);
     let p = copy_all_live(work, from, end, part + Variable::STORE_HEADER_SIZE);
-    let e = part + Nvram::PART;
+    let e = part + Nvram::PART_SIZE;
     buffers::fill_ff(&mut work[p..e]);
     p - part
 }

@@ -26,7 +26,7 @@ impl Nvram {
             Kind::Empty => Ready::Refused(7),
             Kind::Invalid => Ready::Refused(7),
             Kind::Valid => {
-                let part = i * Nvram::PART;
+                let part = i * Nvram::PART_SIZE;
                 Ready::Records(
                     part + Variable::STORE_HEADER_SIZE,
                     part + entry.total as usize,

@@ -103,7 +103,7 @@ fn check_bank(
     if total < Variable::STORE_HEADER_SIZE {
         return Checked::unsound();
     }
-    if Nvram::PART < total {
+    if Nvram::PART_SIZE < total {
         return Checked::unsound();
     }
     if usable < Variable::STORE_HEADER_SIZE {
@@ -149,8 +149,8 @@ fn check_slots(state: Nvram, work: &[u8], counting: bool) -> Checked
     let mut i: usize = 0;
     while i < n {
         let entry = banks[i];
-        let a = i * Nvram::PART;
-        let e = a + Nvram::PART;
+        let a = i * Nvram::PART_SIZE;
+        let e = a + Nvram::PART_SIZE;
         let here = check_slot(&t, entry, &work[a..e], counting & (i == active));
         if !here.sound {
             return Checked::unsound();
@@ -178,7 +178,7 @@ fn check_all(state: Nvram, work: &[u8], counting: bool) -> Checked
     if state.n <= state.active {
         return Checked::unsound();
     }
-    if work.len() < n * Nvram::PART {
+    if work.len() < n * Nvram::PART_SIZE {
         return Checked::unsound();
     }
     check_slots(state, work, counting)

@@ -31,11 +31,8 @@ pub struct Nvram {
 }
 
 impl Nvram {
-    // A bank's bytes in an image.
-    pub const BANK: usize = 65536;
-
     // Work area for each bank.
-    pub const PART: usize = 131072;
+    pub const PART_SIZE: usize = 131072;
 
     // The state with entry i replaced.
     pub fn with_entry(self, i: usize, entry: Entry) -> Nvram

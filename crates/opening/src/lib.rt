@@ -47,8 +47,8 @@ fn is_valid(image: &[u8], i: usize) -> bool
     requires { ⌜ (i < 16) × ((i + 1) * 65536 ≤ length (now image)) ⌝ }
     ensures { λ r. ⌜ r ≡ isValid (slotIn (now (image .entry)) i) ⌝ }
 {
-    let a = i * Nvram::BANK;
-    let e = a + Nvram::BANK;
+    let a = i * Partition::SIZE;
+    let e = a + Partition::SIZE;
     match Partition::parse(&image[a..e]) {
         Slot::Short => false,
         Slot::Empty => false,
@@ -137,10 +137,10 @@ fn load_bank(image: &[u8], work: &mut [u8], i: usize) -> Slot
     requires { ⌜ (i < 16) × ((i + 1) * 65536 ≤ length (now image)) × ((i + 1) * 131072 ≤ length (now work)) ⌝ }
     ensures { λ r. ⌜ (r ≡ answer (slotIn (now (image .entry)) i)) × (now (work .exit) ≡ take (i * partSize) (now (work .entry)) ++ (partOf partSize (slotIn (now (image .entry)) i) ++ drop ((i + 1) * partSize) (now (work .entry)))) ⌝ }
 {
-    let a = i * Nvram::BANK;
-    let e = a + Nvram::BANK;
-    let b = i * Nvram::PART;
-    let f = b + Nvram::PART;
+    let a = i * Partition::SIZE;
+    let e = a + Partition::SIZE;
+    let b = i * Nvram::PART_SIZE;
+    let f = b + Nvram::PART_SIZE;
     Partition::serialize(&image[a..e], &mut work[b..f])
 }
 
@@ -173,14 +173,14 @@ fn load(image: &[u8], work: &mut [u8], n: usize) -> Nvram
 pub fn parse(image: &[u8], work: &mut [u8]) -> Opened
     ensures { λ r. ⌜ (let x = begun (opening (now (image .entry)) (length (now (work .entry)))) (now (work .entry)) in (r .number ≡ x .number) × (r .state ≡ x .state) × (now (work .exit) ≡ x .work)) ⌝ }
 {
-    if image.len() < Nvram::BANK {
+    if image.len() < Partition::SIZE {
         return refused(1);
     }
-    if 17 * Nvram::BANK <= image.len() {
+    if 17 * Partition::SIZE <= image.len() {
         return refused(2);
     }
-    let n = image.len() / Nvram::BANK;
-    if work.len() < n * Nvram::PART {
+    let n = image.len() / Partition::SIZE;
+    if work.len() < n * Nvram::PART_SIZE {
         return refused(3);
     }
     if !any_valid(image, n) {

@@ -174,5 +174,6 @@ pub(crate) fn state_right(state: Nvram, line: &[u8]) -> bool {
 }
 
 pub(crate) fn work_right(state: Nvram, work: &[u8], line: &[u8]) -> bool {
-    (work.len() == state.n as usize * 131072) & (hex(line, 1) == crc32::crc32(work) as u64)
+    (work.len() == state.n as usize * Nvram::PART_SIZE)
+        & (hex(line, 1) == crc32::crc32(work) as u64)
 }

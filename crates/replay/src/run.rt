@@ -12,6 +12,7 @@ use super::fields::end;
 use super::fields::field;
 use super::fields::hex;
 use super::fields::put_bytes;
+use bank::Partition;
 use nvram::Nvram;
 use std::num::wrapping_add_usize;
 use variables::Edited;
@@ -79,11 +80,11 @@ fn put_part(image: &mut [u8], from: usize, count: usize, byte: u8, text: &[u8]) 
 fn area(long: usize, work: &[u8]) -> usize
     ensures { λ r. ⌜ r ≤ length (now (work .entry)) ⌝ }
 {
-    let n = long / 65536;
-    if work.len() / 131072 < n {
+    let n = long / Partition::SIZE;
+    if work.len() / Nvram::PART_SIZE < n {
         work.len()
     } else {
-        n * 131072
+        n * Nvram::PART_SIZE
     }
 }
 
@@ -186,7 +187,7 @@ impl Walk {
     fn step(self, line: &[u8], image: &mut [u8], work: &mut [u8]) -> Walk {
         let kind = letter(line);
         if kind == b'B' {
-            return self.part(line, image, 65536, 1);
+            return self.part(line, image, Partition::SIZE, 1);
         }
         if kind == b'T' {
             return self.part(line, image, decimal(line, 1) as usize, 2);

@@ -68,7 +68,7 @@ fn refusal(state: Nvram, key: usize, value: usize) -> u32
 {
     let i = state.active as usize;
     let entry = state.banks[i];
-    let left = Nvram::PART - entry.total as usize;
+    let left = Nvram::PART_SIZE - entry.total as usize;
     if left < Variable::LEAST_SIZE {
         return 8;
     }

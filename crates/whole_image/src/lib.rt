@@ -1,5 +1,6 @@
 // The whole image: 01, 'Edits and lookups'.
 use bank::Head;
+use bank::Partition;
 use bank::StoreHeader;
 use nvram::Kind;
 use nvram::Nvram;
@@ -32,7 +33,7 @@ fn slot_size(state: Nvram, work: &[u8], i: usize) -> usize
     match kind {
         Kind::Empty => 0,
         Kind::Invalid => 0,
-        Kind::Valid => match StoreHeader::parse(&work[i * Nvram::PART..]) {
+        Kind::Valid => match StoreHeader::parse(&work[i * Nvram::PART_SIZE..]) {
             Head::Good(header) => header.size as usize,
             Head::Signature => 0,
             Head::Version => 0,
@@ -68,7 +69,7 @@ fn join(state: Nvram, work: &[u8], output: &mut [u8]) -> usize
     let mut i: usize = 0;
     while i < n {
         let size = slot_size(state, work, i);
-        let a = i * Nvram::PART;
+        let a = i * Nvram::PART_SIZE;
         let end = a + size;
         buffers::copy(&work[a..end], &mut output[at..]);
         at += size;
@@ -86,7 +87,7 @@ pub fn serialize(state: Nvram, work: &[u8], output: &mut [u8]) -> Serialized
             length: 0,
         };
     }
-    if output.len() < state.n as usize * Nvram::BANK {
+    if output.len() < state.n as usize * Partition::SIZE {
         return Serialized {
             number: 5,
             length: 0,
