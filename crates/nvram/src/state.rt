@@ -1,9 +1,7 @@
 // The state of a store: 01, 'Opening'.
 ghost use mathlib.Core.Path.{_≡_};
 ghost use lib.ListN.{replicate};
-ghost use Prim.Native.Nat.{_<_};
 ghost use Rattle.nvram.specs.Part.{entry};
-ghost use Rattle.nvram.specs.Layout.{setEntry};
 
 // What a slot is.
 pub enum Kind {
@@ -33,16 +31,6 @@ pub struct Nvram {
 impl Nvram {
     // Work area for each bank.
     pub const PART_SIZE: usize = 131072;
-
-    // The state with entry i replaced.
-    pub fn with_entry(self, i: usize, entry: Entry) -> Nvram
-        requires { ⌜ i < 16 ⌝ }
-        ensures { λ r. ⌜ r ≡ setEntry self i entry ⌝ }
-    {
-        let mut next = self;
-        next.banks[i] = entry;
-        next
-    }
 }
 
 // A table of Empty slots.

@@ -88,10 +88,11 @@ fn grown(state: Nvram, key: usize, value: usize) -> Nvram
 {
     let i = state.active as usize;
     let entry = state.banks[i];
-    let next = Entry {
+    let mut next = state;
+    next.banks[i] = Entry {
         kind: Kind::Valid,
         total: entry.total + (Variable::LEAST_SIZE + key + value) as u32,
         usable: entry.usable,
     };
-    state.with_entry(i, next)
+    next
 }
