@@ -1,4 +1,5 @@
--- What the functions on one header or record need, over variables.
+-- The fields of a bank's header and of a record's, as the code reads and writes them. `step-length` to `step-next` are `Variable::parse` behind the
+-- record's header, by the laws of `found`; `Front` is a record's header as far as it is written.
 use Prim.Native.Nat.{ℕ, _+_, _-_, _≤_, _<_}
 use mathlib.Core.Path.{_≡_, refl, sym, ap, _∙_}
 use mathlib.Core.List.{List, [], _∷_, _++_, append-nil, append-assoc}

@@ -1,4 +1,5 @@
--- What reading ignores: reserved and closing bytes, and what comes after the size and the records.
+-- What reading ignores, to be read: nothing else cites these laws. The header's reserved byte, a record's reserved and closing bytes, and what comes
+-- after the size and the records: other bytes that agree elsewhere are walked alike (`walk-same`), and so read as the same bank (`bank-same`).
 use Prim.Native.Nat.{ℕ, _+_, _-_, _≤_, _<_}
 use mathlib.Core.Path.{_≡_, refl, sym, ap, _∙_, subst}
 use mathlib.Core.List.{List, [], _∷_}

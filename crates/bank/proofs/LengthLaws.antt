@@ -1,4 +1,4 @@
--- The length of each encoding.
+-- How many bytes each encoding has: a header 24, a record `sizeOf`, a bank its total, a part as many as it is padded to.
 use Prim.Native.Nat.{ℕ, _≤_}
 use mathlib.Core.Path.{_≡_, refl, _∙_}
 use mathlib.Core.List.{List, [], _∷_}

@@ -1,4 +1,5 @@
--- The loop that zeros reserved and closing bytes, record by record.
+-- The loop that zeros reserved and closing bytes: `ToNormalize` says what is left to zero from an offset on and what it comes to; a turn zeros those
+-- of the record there, by `normal`.
 use Prim.Native.Nat.{ℕ, _+_, _-_, _≤_, _<_}
 use mathlib.Core.Path.{_≡_, refl, sym, ap, ap₂, _∙_, subst}
 use mathlib.Core.List.{List, _++_, append-assoc, append-nil}

@@ -1,4 +1,4 @@
--- Bytes padded with 0xFF.
+-- Bytes padded with 0xFF to a length: up to a shorter one they are padded to that (`take-padded`), and behind it all is 0xFF (`drop-padded`).
 use Prim.Native.Nat.{ℕ, _+_, _-_, _≤_}
 use native.Mathlib.Omega.{arith}
 use mathlib.Core.Path.{_≡_, sym, ap, _∙_}

@@ -1,4 +1,5 @@
--- A turn of the loop that reads a bank's records, by what the code is told of the part from its offset.
+-- Reading a bank in the numbers that the code has: a turn of the loop over the records (`turn-next`, `turn-halt`, `turn-end`), a bank whose header
+-- was read (`read-spoiled`, `read-kept`), a slot by its head, and bytes that are too few.
 use Prim.Native.Nat.{ℕ, _+_, _-_, _≤_, _<_}
 use mathlib.Core.Path.{_≡_, refl, sym, ap, ap₂, _∙_}
 use mathlib.Core.Bool.{true, false}

@@ -1,4 +1,4 @@
--- What a bank that was read came from, and that it is well-formed.
+-- What a bank that was read came from, its header and its walk (`came`); and so it is well-formed (`read-fine`, by `head-fine` and `walk-fine`).
 use Prim.Native.Nat.{ℕ, _+_, _-_, _≤_, _<_}
 use mathlib.Core.Path.{_≡_, refl, sym, ap, _∙_, subst}
 use mathlib.Core.List.{List}

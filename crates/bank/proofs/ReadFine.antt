@@ -1,4 +1,4 @@
--- A bank that was read is well-formed, and its records stand in the bytes one after the other.
+-- The records that a walk finds are well-formed, and stand in the bytes one after the other: `walk-fine`, by `walk-ind`.
 use Prim.Native.Nat.{ℕ, zero, suc, _+_, _-_, _≤_, _<_}
 use mathlib.Core.Path.{_≡_, refl, sym, ap, _∙_, subst}
 use mathlib.Core.List.{List, [], _∷_, _++_}

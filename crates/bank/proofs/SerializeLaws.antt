@@ -1,4 +1,4 @@
--- What serializing leaves, by the slot that was read.
+-- What `Partition::serialize` answers and leaves: a law for bytes that are too few, and for each slot that was read.
 use Prim.Native.Nat.{ℕ, _≤_, _<_}
 use mathlib.Core.Path.{_≡_, refl, sym, ap, _∙_}
 use mathlib.Core.List.{List}

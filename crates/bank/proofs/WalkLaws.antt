@@ -1,4 +1,4 @@
--- What stands at an offset, by cases, and the reading loop's equations.
+-- What stands at an offset, by the cases of `found`; the reading loop's equations, and induction over a walk (`walk-ind`).
 use Prim.Native.Nat.{ℕ, zero, suc, _+_, _≤_, _<_}
 use mathlib.Core.Path.{_≡_, refl, ap, _∙_, subst}
 use mathlib.Core.List.{List}

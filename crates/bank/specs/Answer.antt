@@ -1,4 +1,4 @@
--- What the code answers of a slot, by cases.
+-- What the code answers where the definitions have a slot, an item of the walk or a record's header; and a part as `serialize` leaves it.
 use Prim.Native.Nat.{ℕ}
 use mathlib.Core.List.{List}
 use mathlib.Core.Bool.{_&&_, cond}

@@ -1,4 +1,4 @@
--- Figures of a bank (01, 'A commit, from the entry down').
+-- A bank's total, of all its records and of the live ones alone (01, 'A commit, from the entry down'), and which records are live in a section.
 use Prim.Native.Nat.{ℕ, _+_}
 use mathlib.Core.List.{List, [], _∷_}
 use mathlib.Core.Bool.{Bool, _&&_, cond}

@@ -1,4 +1,4 @@
--- A bank's lines, put one part after the other.
+-- The header's line, the records' lines and the last line, one behind the other, are the bank's (`all-put`); room for all is room for each.
 use Prim.Native.Nat.{ℕ}
 use mathlib.Core.Path.{_≡_, ap}
 use mathlib.Core.List.{List, _++_}

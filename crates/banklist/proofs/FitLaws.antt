@@ -1,4 +1,5 @@
--- How long a listing can be: a record of n bytes makes a line of at most 2 × n.
+-- How long a listing can be: a record of n bytes makes a line of at most 2 × n (`record-short`), so that any listing fits the bytes lent
+-- (`listing-fits`).
 use Prim.Native.Nat.{ℕ, zero, suc, _+_, _*_, _/_, _%_, _^_, _≤_, _<_}
 use mathlib.Core.Path.{_≡_, refl}
 use mathlib.Core.List.{List, [], _∷_, _++_}

@@ -1,4 +1,4 @@
--- Digits: of bytes in hexadecimal, of a number in decimal, and a key's field.
+-- A key's field as the code tests for it: `-` where the key is empty, else its digits.
 use Prim.Native.Nat.{ℕ, _-_}
 use mathlib.Core.Path.{_≡_, refl}
 use mathlib.Core.List.{List, [], _∷_}

@@ -1,4 +1,5 @@
--- The records of a bank, one after the other in its bytes, and their lines.
+-- The loop over a bank's records: they stand in its bytes as the walk found them (`walk-rows`); `ToList` says that the lines of those before an
+-- offset are put and those from it on are left, with laws for start, turn and end (`left-all`, `left-turn`, `left-none`).
 use Prim.Native.Nat.{ℕ, _+_, _-_, _≤_, _<_}
 use mathlib.Core.Path.{_≡_, refl, sym, ap, _∙_, subst}
 use mathlib.Core.List.{List, [], _∷_, _++_, append-assoc, append-nil}

@@ -1,4 +1,4 @@
--- The slots of an image: how many, and one more.
+-- The slots read off an image: how many (`slots-long`), the first of those from bank i on (`slots-here`), and one more at the end (`slots-more`).
 use Prim.Native.Nat.{ℕ, zero, suc, _+_, _-_, _*_, _<_}
 use mathlib.Core.Path.{_≡_, refl, sym, ap, _∙_}
 use mathlib.Core.List.{List, [], _∷_, _++_}

@@ -1,4 +1,4 @@
--- What the definitions of specs/Bytes mean, for the crates that cite them.
+-- What the tests of specs/Bytes say of bytes: the same as others, all 0xFF, how many 0xFF in front, 0 or 0xFF; and what `onto` leaves.
 use Prim.Native.Nat.{ℕ, zero, suc, _+_, _-_, _≤_, _<_, min}
 use mathlib.Core.Path.{_≡_, refl, sym, ap, _∙_}
 use mathlib.Core.List.{List, [], _∷_, _++_, append-nil}

@@ -1,4 +1,5 @@
--- The loops' steps: one byte or one block more, and none left.
+-- Turns of the loops over bytes: a test of all from a place on is that of one byte or block and of the rest (`Both`), a count likewise. `flag-more`
+-- and `flag-none` are for loops that keep a flag, `test-fails` and `test-holds` for those that leave early.
 use Prim.Native.Nat.{ℕ, suc, _+_, _-_, _≤_, _<_}
 use mathlib.Core.Path.{_≡_, refl, sym, ap, _∙_}
 use mathlib.Core.List.{List, [], _∷_, _++_, append-assoc}

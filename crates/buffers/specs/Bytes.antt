@@ -1,4 +1,4 @@
--- Bytes put over others, and records as they stand before their reserved and closing bytes are zeroed.
+-- Bytes put over others, and tests of bytes: all 0xFF, all 0 or 0xFF, how many 0xFF in front, the same as others.
 use Prim.Native.Nat.{ℕ, _+_, suc}
 use mathlib.Core.List.{List, [], _∷_, _++_}
 use lib.ListN.{length, take, drop}

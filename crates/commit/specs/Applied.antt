@@ -1,4 +1,4 @@
--- What the code answers of a commit, by cases.
+-- What the code answers of a commit as the book's answer: its number, erase request and write, and its verdict; and the state that a move leaves.
 use Prim.Native.Nat.{ℕ}
 use mathlib.Core.Option.{Option, none, some}
 use lib.ListN.{set}

@@ -1,4 +1,4 @@
--- The shares of some bytes: one byte more, and what the code works out.
+-- The shares of some bytes: those of one byte more (`share-cons`), and that the four entries which the code looks up are those of four (`early`).
 use mathlib.Core.Path.{_≡_, refl, sym, ap, ap₂, _∙_}
 use mathlib.Core.List.{List, [], _∷_}
 use Prim.Native.Nat.{ℕ, _+_, _*_, _/_, _%_, _<_}

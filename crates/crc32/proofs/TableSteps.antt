@@ -1,4 +1,4 @@
--- The table forms from a place in a list: one byte or block more, and none left.
+-- Turns of the loops by tables: the table forms from a place on, by one byte or run more (`byte-more`, `late-more`, `run-more`) and with none left.
 use mathlib.Core.Path.{_≡_, sym, ap, _∙_}
 use mathlib.Core.List.{List}
 use Prim.Native.Nat.{ℕ, zero, suc, _+_, _-_, _/_, _≤_, _<_}

@@ -1,4 +1,5 @@
--- A run through the exports meets demand 3: the state that its bytes hold after each call is the definition's.
+-- A run through the exports meets demand 3 (`exported-3`, to be read: nothing cites it): the state that its bytes hold after each call is the
+-- definition's (`follow`), so that `demand-3` is of the same run.
 use Prim.Native.Nat.{ℕ, zero, suc, _-_, _<_}
 use mathlib.Core.Path.{_≡_, refl, sym, ap, _∙_, subst}
 use mathlib.Core.List.{List, [], _∷_, _++_, map}

@@ -1,4 +1,5 @@
--- The move of records, one after the other: what is kept of each, and what is left to move.
+-- The move of records, one after the other: what is kept of each (`copy-live-dead`, `copy-live-live`), and what is left to move (`ToMove`), with
+-- laws for start, turn and end.
 use Prim.Native.Nat.{ℕ, _+_, _-_, _≤_, _<_}
 use mathlib.Core.Path.{_≡_, refl, sym, ap, _∙_, subst}
 use mathlib.Core.Bool.{Bool, true, false, cond}

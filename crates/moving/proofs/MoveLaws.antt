@@ -1,4 +1,4 @@
--- The whole move: header, live records, 0xFF.
+-- The whole move: a header, the live records behind it and then 0xFF are the part of the moved bank (`moved`); the header leaves the records alone.
 use Prim.Native.Nat.{ℕ, _+_, _-_, _≤_}
 use mathlib.Core.Path.{_≡_, sym, ap, _∙_}
 use mathlib.Core.Logic.{_⊎_, inl, inr}

@@ -1,4 +1,4 @@
--- The move of a bank in the work area, as the functions that copy speak of it.
+-- The move of a bank in the work area: where records can be moved to, what is kept of each, and that a copy reads a byte before it writes there.
 use Prim.Native.Nat.{ℕ, _+_, _-_, _≤_}
 use mathlib.Core.Bool.{cond}
 use mathlib.Core.List.{List, []}

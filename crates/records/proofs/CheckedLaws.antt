@@ -1,4 +1,4 @@
--- What a check answers, by what it looks for.
+-- What a check answers: unsound where nothing can be viewed (`checked-none`), and sound just where something can (`checked-sound`).
 use mathlib.Core.Path.{_≡_, refl, sym, ap}
 use mathlib.Core.Bool.{true}
 use mathlib.Core.Option.{Option, none, some}

@@ -1,4 +1,5 @@
--- The figures, record by record, as the check for refusal 6 adds them up.
+-- The figures, record by record, as the check for refusal 6 adds them up: `Walked` says what holds of the sums at a place, with laws for start,
+-- turn, stop and end.
 use Prim.Native.Nat.{ℕ, _+_, _-_, _≤_}
 use mathlib.Core.Path.{_≡_, refl, sym, ap, _∙_, subst}
 use mathlib.Core.List.{List, [], _∷_}

@@ -1,4 +1,4 @@
--- Lists of records: joined, edited and added to.
+-- Lists of records that are joined, edited or selected from: their bytes, their sizes, and that they stay well-formed.
 use Prim.Native.Nat.{ℕ, zero, suc, _+_, _≤_, _<_}
 use mathlib.Core.Path.{_≡_, refl, sym, ap, _∙_}
 use mathlib.Core.List.{List, [], _∷_, _++_, append-assoc}

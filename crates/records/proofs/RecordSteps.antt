@@ -1,4 +1,5 @@
--- What the functions on records need, over variables.
+-- One record in the numbers that the code has: where the one at a place ends (`no-next` to `next-end`) and what is viewed from there on (`Further`);
+-- whether it matches (`match-dead`, `match-other`, `match-type`); and how it is deleted where it stands (`delete-match`, `delete-other`).
 use Prim.Native.Nat.{ℕ, _+_, _-_, _≤_, _<_}
 use mathlib.Core.Path.{_≡_, refl, sym, ap, _∙_, subst}
 use mathlib.Core.List.{List, [], _++_}

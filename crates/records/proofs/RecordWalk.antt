@@ -1,4 +1,4 @@
--- Walking over records in the work area: what stands at a place, and the loops that delete and find.
+-- Walking over records in the work area: what stands at a place (`RecordHere`), and the loops that delete (`ToDelete`) and find (`Look`).
 use Prim.Native.Nat.{ℕ, _+_, _-_, _≤_, _<_}
 use mathlib.Core.Path.{_≡_, refl, sym, ap, ap₂, _∙_, subst}
 use mathlib.Core.List.{List, [], _∷_, _++_, append-assoc}

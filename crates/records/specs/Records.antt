@@ -1,4 +1,4 @@
--- Records in the work area, as the functions that walk them speak of them.
+-- Records in the work area: that it holds some from a place up to another, where the one at a place ends, and the bytes once it is deleted.
 use Prim.Native.Nat.{ℕ, _+_, _-_, _≤_}
 use mathlib.Core.Path.{_≡_}
 use mathlib.Core.List.{List}

@@ -1,4 +1,5 @@
--- Which bank an opening makes active (01, 'Opening').
+-- Which bank an opening makes active (01, 'Opening'): a Valid one of a generation over all others' is chosen (`chooses`), and an active bank that is
+-- Valid has the greatest generation (`active-most`).
 use Prim.Native.Nat.{ℕ, zero, suc, _+_, _*_, _≤_, _<_}
 use native.Mathlib.Omega.{arith}
 use native.Mathlib.Nat.{zero-mul, suc-mul, add-comm}

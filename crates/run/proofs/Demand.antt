@@ -1,4 +1,4 @@
--- Demand 3 of every run: `demand-3`.
+-- Every run meets demand 3 (`demand-3`): its parts are read off the pages of `opened-along`, the wear by `wear-within`, the reopening by `reopens`.
 use Prim.Native.Nat.{_+_, min}
 use mathlib.Core.Path.{_≡_, sym, ap, _∙_, subst}
 use mathlib.Core.Logic.{_≢_}

@@ -1,5 +1,5 @@
--- Demand 3's premises can be met: one bank of size 100, in which the second insert and the third make the commit move, so that its erase is
--- requested twice. And the wear bound at the figures that 01 gives.
+-- To be read: nothing else cites it. Demand 3's premises can be met (`premises-met`): one bank of size 100, in which the second insert and the third
+-- make the commit move, so that its erase is requested twice. And the wear bound at the figures that 01 gives (`two-banks`).
 use Prim.Native.Nat.{ℕ, _+_, _-_, _*_, _/_, _≤_, _<_}
 use mathlib.Core.Path.{_≡_, refl, sym, ap, ap₂, _∙_, subst}
 use mathlib.Core.Logic.{_≢_}

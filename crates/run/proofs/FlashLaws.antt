@@ -1,4 +1,5 @@
--- The reader of a bank: what is written and then padded is read back; an Empty bank is all 0xFF; a generation is the number at bytes 8 to 11.
+-- What an erase and a write leave of the flash: one bank is replaced and the others stay (`erased-bank`, `written-bank`). A write ANDs, so onto 0xFF
+-- it comes out as it is (`ands-ff`), and onto any bytes what can be read has no greater generation (`generation-below`).
 use Prim.Native.Nat.{ℕ, _+_, _-_, _≤_, _<_, zero, suc, _*_}
 use native.Mathlib.Omega.{arith}
 use mathlib.Core.Path.{_≡_, refl, ap, _∙_, sym, ap₂, subst}

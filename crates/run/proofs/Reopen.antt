@@ -1,4 +1,4 @@
--- Demand 3, the reopening: a flash that holds the book's active bank opens to the book.
+-- Demand 3, the reopening (`reopens`): a flash that holds the book's active bank opens to a book with that bank active, so lookups answer alike.
 use Prim.Native.Nat.{ℕ, _*_, _+_, _≤_, _<_}
 use native.Mathlib.Omega.{arith}
 use native.Mathlib.Nat.{mul-le-mul-right, one-mul}

@@ -1,4 +1,4 @@
--- What an accepted opening leaves.
+-- What an accepted opening leaves (`starts`): state and work area hold the opened book, which is well-formed, and the tally is 0.
 use Prim.Native.Nat.{ℕ, _*_, _<_}
 use mathlib.Core.Path.{_≡_, refl, ap, _∙_}
 use mathlib.Core.List.{List}

@@ -1,4 +1,5 @@
--- The wear bound (01, 'A run, its book and the flash'), with L anything that the live records at commits stay within.
+-- The wear bound (01, 'A run, its book and the flash'), with L anything that the live records at commits stay within. From one move to the next to
+-- the same bank there are n moves or more (`whole-turns`), each drops the total by D or more, and inserts have brought that (`Went`, `two-moves`).
 use Prim.Native.Nat.{ℕ, zero, suc, _+_, _*_, _/_, _≤_, _<_}
 use native.Mathlib.Omega.{arith}
 use native.Mathlib.Nat.{div-add-mod', mul-le-mul-right, le-trans}

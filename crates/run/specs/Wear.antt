@@ -1,4 +1,5 @@
--- What the wear bound counts (01, 'A run, its book and the flash').
+-- What the wear bound counts (01, 'A run, its book and the flash'): S, the active bank's size; L, the most that live records come to at commits; the
+-- bytes inserted; and erase requests.
 use Prim.Native.Nat.{ℕ, zero, suc, _+_, max}
 use mathlib.Core.List.{List, [], _∷_}
 use mathlib.Core.Option.{Option, none, some}

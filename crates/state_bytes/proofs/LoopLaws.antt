@@ -1,4 +1,4 @@
--- The loops that read and write the 16 entries.
+-- The loops of `load` and `store` over the 16 entries: what holds after i of them is `Reading` and `Writing`, with laws for start, turn and end.
 use Prim.Native.Nat.{ℕ, suc, _+_, _*_, _-_, _≤_, _<_}
 use mathlib.Core.Path.{_≡_, refl, sym, ap, ap₂, _∙_}
 use mathlib.Core.List.{List, [], _∷_, _++_, append-assoc, append-nil}

@@ -1,4 +1,4 @@
--- Bytes put over others, one run after another.
+-- Text put over bytes, one run behind another (`join`); room for all is room for each (`front`, `back`), and for a line field by field (`Rooms`).
 use Prim.Native.Nat.{ℕ, _+_, _-_, _≤_, _<_}
 use mathlib.Core.Path.{_≡_, refl, sym, ap, _∙_}
 use mathlib.Core.List.{List, [], _∷_, _++_}

@@ -1,4 +1,5 @@
--- Digits: of bytes in hexadecimal, of a number in decimal, and a key's field.
+-- Digits: of bytes in hexadecimal, as a loop puts them (`hex-put`, `hex-room`), and of a number in decimal: what `io::decimal` leaves is `decimal`
+-- (`decimal-digits`).
 use Prim.Native.Nat.{ℕ, zero, suc, _+_, _-_, _*_, _/_, _%_, _^_, _≤_, _<_}
 use mathlib.Core.Path.{_≡_, refl, ap, _∙_}
 use mathlib.Core.List.{List, [], _∷_, _++_}

@@ -1,4 +1,4 @@
--- What a writer does to the bytes lent.
+-- What a writer asks of the bytes lent, `Room` for its text, and what it leaves: the text `Put` over them, and the place behind it.
 use Prim.Native.Nat.{ℕ, _+_, _≤_}
 use mathlib.Core.Path.{_≡_}
 use mathlib.Core.List.{List}

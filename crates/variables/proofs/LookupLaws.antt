@@ -1,4 +1,5 @@
--- Lookups on a sound state and work area: the place that is found, and the value that stands there.
+-- Lookups on a sound state and work area: the place that is found, and the value that stands there (`value-stands`). `value-lies` is to be read:
+-- nothing cites it.
 use Prim.Native.Nat.{ℕ, _+_, _*_, _-_, _≤_}
 use mathlib.Core.Path.{_≡_, refl, sym, ap, ap₂, _∙_, subst}
 use mathlib.Core.List.{List, [], _∷_, _++_, append-assoc}

@@ -1,4 +1,4 @@
--- The slots of a state and a work area, as the whole image is made of them.
+-- That a table and a work area hold some slots laid out, which is what the functions of the whole image require.
 use Prim.Native.Nat.{ℕ, _*_, _≤_}
 use mathlib.Core.Path.{_≡_}
 use mathlib.Core.List.{List, _++_}

@@ -1,3 +1,4 @@
+-- `all_blank`: the answer for s is that for its bytes from i on; by `blank-more` the byte at i is passed or decides; `blank-none` is the end.
 use borrow.Author.Needs.{needs}
 use native.Mathlib.Omega.{arith}
 use Prim.Native.Nat.{_≤_, _-_}

@@ -1,3 +1,4 @@
+-- `all_ff`: the answer for s is that for its bytes from i on; `ff-block` takes one block off, and a block that fails is the answer (`test-fails`).
 use borrow.Author.Needs.{needs}
 use native.Mathlib.Omega.{arith}
 use Prim.Native.Nat.{_≤_, _-_, _+_}

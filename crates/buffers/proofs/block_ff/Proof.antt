@@ -1,3 +1,4 @@
+-- `block_ff`: `ok` and the answer for the bytes from i on make that for all (`Both`); `ff-more` takes a byte, `ff-none` is the end.
 use borrow.Author.Needs.{needs}
 use native.Mathlib.Omega.{arith}
 use Prim.Native.Nat.{_≤_, _-_}

@@ -1,3 +1,4 @@
+-- `block_same`: `ok` and the comparison from i on make that of the whole (`Both`); `eq-more` takes a byte of each, `eq-none` is the end.
 use borrow.Author.Needs.{needs}
 use native.Mathlib.Omega.{arith}
 use Prim.Native.Nat.{_≤_, _-_}

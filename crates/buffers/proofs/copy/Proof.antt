@@ -1,3 +1,4 @@
+-- `copy`: the first i bytes are copied and the rest is as it was (`copy-more`); i stays below both lengths. `onto-front` says that this is `onto`.
 use borrow.Author.Needs.{needs}
 use native.Mathlib.Omega.{arith}
 use Prim.Native.Nat.{_≤_, _-_, min}

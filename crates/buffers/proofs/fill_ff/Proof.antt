@@ -1,3 +1,4 @@
+-- `fill_ff`: the first i bytes are 0xFF and the rest is as it was; `fill-more` writes one more.
 use mathlib.Core.List.{append-nil, _++_}
 use Rattle.buffers.proofs.LoopSteps.{fill-more}
 use Rattle.buffers.proofs.fill_ff.Statement.{statement}

@@ -1,3 +1,4 @@
+-- `lead_bytes`: s has i bytes 0xFF in front, and then those in front from i on; `lead-more` passes one, `lead-stop` and `lead-none` are the exits.
 use borrow.Author.Needs.{needs}
 use native.Mathlib.Omega.{arith}
 use Prim.Native.Nat.{_≤_, _-_, _+_}

@@ -1,3 +1,5 @@
+-- `lead_ff`: s has i bytes 0xFF in front, and then those in front from i on; `lead-block` passes a block, and `lead_bytes` counts from where the
+-- loop ends. The sum is in range since no more than all bytes are 0xFF (`count-ff-le`).
 use borrow.Author.Needs.{needs}
 use native.Mathlib.Omega.{arith}
 use Prim.Native.Nat.{_≤_, _-_, _+_}

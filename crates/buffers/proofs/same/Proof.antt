@@ -1,3 +1,5 @@
+-- `same`: first other lengths (`other-length`), no bytes (`eq-none`) and another first byte (`eq-more` at 0). Then the answer is that for the bytes
+-- from i on: `eq-block` takes one block off, and a block that differs is the answer (`test-fails`).
 use borrow.Author.Needs.{needs}
 use native.Mathlib.Omega.{arith}
 use Prim.Native.Nat.{_≤_, _-_, _+_}

@@ -1,3 +1,5 @@
+-- `apply`: `at-hand` is a sound state and work area. Refusals 6, 5 and 7 in that order by `does-6`, `does-5` and `does-7`; a Valid slot goes by
+-- `commit_active`, and its part cannot fail to begin with a header (`no-fault`).
 use mathlib.Core.Path.{sym, ap, _∙_}
 use mathlib.Core.Option.{none}
 use native.Mathlib.Omega.{arith}

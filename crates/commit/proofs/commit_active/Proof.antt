@@ -1,3 +1,5 @@
+-- `commit_active`: the verdict is the book's of the active bank (`decided`); a refusal is `refuses`, a write in place `stays`, and a move the
+-- contract of `move_on`, for which `move-due` gives what is required.
 use mathlib.Core.Path.{_≡_, refl, sym, ap, _∙_}
 use mathlib.Core.Option.{none}
 use native.Mathlib.Omega.{arith}

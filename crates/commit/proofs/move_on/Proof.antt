@@ -1,3 +1,5 @@
+-- `move_on`: `at-hand` is what is known at the start (`Moving`), `left` what the functions called have left (`MoveLeft`); the exits are `does-12`,
+-- where the live records are over the size, and `does-move`.
 use native.Mathlib.Omega.{arith}
 use lib.ListN.{length-map}
 use Rattle.commit.specs.Applied.{requested}

@@ -1,3 +1,4 @@
+-- `write`: the output's front is the bank's bytes (`written`); the rest of the contract is what is returned.
 use Prim.Native.Nat.{_*_}
 use mathlib.Core.Path.{refl}
 use native.Mathlib.Omega.{arith}

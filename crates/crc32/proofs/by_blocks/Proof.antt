@@ -1,3 +1,5 @@
+-- `by_blocks`: `byBlocks` of the register and the bytes from i on is that of the start and all; `run-more` takes 16 of them, and fewer are left to
+-- `by_words` (`run-none`).
 use mathlib.Core.Path.{_≡_, sym, ap, _∙_}
 use Prim.Native.Nat.{_-_, _≤_}
 use native.Mathlib.Omega.{arith}

@@ -1,3 +1,4 @@
+-- `by_bytes`: `byBytes` of the register and the bytes from i on is `byBytes` of the start and all; `byte-more` takes a byte, `byte-none` is the end.
 use mathlib.Core.Path.{_≡_, sym, _∙_}
 use Prim.Native.Nat.{_-_, _≤_}
 use native.Mathlib.Omega.{arith}

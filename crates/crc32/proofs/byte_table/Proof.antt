@@ -1,3 +1,4 @@
+-- `byte_table`: TABLE follows the rule by `first`; the `tt` there is the test of its 256 entries, which antt computes.
 use mathlib.Core.Path.{refl}
 use Rattle.crc32.specs.Crc32.{polyIf, bitStep, bitSteps}
 use Rattle.crc32.proofs.Rule.{first, both, pairs, count}

@@ -1,3 +1,4 @@
+-- `copy`: the first i entries are copied and the rest is as it was; `copy-more` copies one more. i stays below both lengths.
 use mathlib.Core.Path.{_≡_, _∙_}
 use Prim.Native.Nat.{_-_, _≤_}
 use native.Mathlib.Omega.{arith}

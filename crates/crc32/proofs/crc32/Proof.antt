@@ -1,3 +1,5 @@
+-- `crc32`: fewer than 112 bytes by the one table (`by-bytes`), else by the sixteen (`crc-by`); that they follow the rule is what `byte_table` and
+-- `tables` promise.
 use native.Mathlib.Omega.{arith}
 use mathlib.Core.Path.{ap, _∙_}
 use Prim.Native.Nat.{ℕ}

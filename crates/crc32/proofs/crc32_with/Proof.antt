@@ -1,3 +1,4 @@
+-- `crc32_with`: of fewer than 16 bytes `byBlocks` is `byWords` (`run-none`); that tables which follow the rule give the CRC-32 is `crc-by`.
 use native.Mathlib.Omega.{arith}
 use mathlib.Core.Path.{sym, ap, _∙_}
 use Prim.Native.Nat.{ℕ}

@@ -1,3 +1,4 @@
+-- `early_bytes`: the four entries looked up, joined by exclusive or, are the shares of the four bytes: `early`.
 use Rattle.crc32.proofs.Shares.{early}
 use Rattle.crc32.proofs.early_bytes.Statement.{statement}
 use Rattle.crc32.proofs.early_bytes.Tie as tie

@@ -1,3 +1,4 @@
+-- `late_bytes`: `acc`, exclusive-or the shares of the bytes from i on, is the shares of all; `late-more` takes a byte, `late-none` is the end.
 use mathlib.Core.Path.{_≡_, refl, sym, _∙_}
 use Prim.Native.Nat.{_-_, _≤_}
 use native.Mathlib.Omega.{arith}

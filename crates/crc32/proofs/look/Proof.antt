@@ -1,3 +1,4 @@
+-- `look`: the index is in the row since a number's low byte is below 256 (`mask-lt`).
 use native.Mathlib.Omega.{arith}
 use lib.Bits.{mask-lt}
 use Rattle.crc32.specs.Table.{tableEntry}

@@ -1,3 +1,4 @@
+-- `tables`: the first table and the rows behind it, copied, follow the rule (`copied`); the `tt` there is the test of ROWS, which antt computes.
 use mathlib.Core.Path.{refl}
 use Rattle.crc32.specs.Crc32.{polyIf, bitStep, bitSteps}
 use Rattle.crc32.proofs.Rule.{copied, both, pairs, count, firsts}

@@ -1,3 +1,4 @@
+-- `lengths`: no contract; i stays within both lists of 26.
 use Prim.Native.Nat.{_≤_, _-_}
 use borrow.Author.Needs.{needs}
 use Rattle.crc_vectors.proofs.lengths.Statement.{statement}

@@ -1,3 +1,4 @@
+-- `upward`: no contract; i stays within the 4,097 bytes.
 use Prim.Native.Nat.{_≤_, _-_}
 use borrow.Author.Needs.{needs}
 use Rattle.crc_vectors.proofs.upward.Statement.{statement}

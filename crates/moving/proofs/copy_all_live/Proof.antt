@@ -1,3 +1,5 @@
+-- `copy_all_live`: whatever records stand there, the live ones of those left, put at p, make what is wanted (`ToMove`); `begin`, `turn` (`turn-at`)
+-- and `done` are start, turn and end. `ToMove` keeps that no byte is written over before it is read.
 use borrow.Author.Needs.{needs}
 use native.Mathlib.Omega.{arith}
 use Prim.Native.Nat.{_-_, _+_, _≤_}

@@ -1,3 +1,5 @@
+-- `copy_live`: nothing of a record that isn't live (`copy-live-dead`); a live one is copied or is there already (`left-is`, by `copy-self`):
+-- `copy-live-live`.
 use borrow.Author.Needs.{needs}
 use mathlib.Core.Path.{_≡_, _∙_}
 use mathlib.Core.Logic.{⊎-elim}

@@ -1,3 +1,4 @@
+-- `copy_within`: w is as it was with the first i bytes put over it from `to` on; by `ReadFirst` the next byte is still as it was (`copy-more`).
 use borrow.Author.Needs.{needs}
 use native.Mathlib.Omega.{arith}
 use Prim.Native.Nat.{_-_, _≤_}

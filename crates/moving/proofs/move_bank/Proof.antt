@@ -1,3 +1,5 @@
+-- `move_bank`: the header in the part (`headed`), the live records behind it, for which `carriable` gives what `copy_all_live` requires, and 0xFF to
+-- the part's end: `moved`. The records end within the part (`within`).
 use Prim.Native.Nat.{_+_, _-_, _≤_}
 use mathlib.Core.Path.{_≡_, refl}
 use lib.ListN.{length}

@@ -1,3 +1,5 @@
+-- `any_valid`: whether one is Valid is whether one from i on is (`ToSearch`); `any-start` and `any-next` are start and turn, `any-found` and
+-- `any-none` the exits.
 use Prim.Native.Nat.{_-_, _≤_}
 use native.Mathlib.Omega.{arith}
 use borrow.Author.Needs.{needs}

@@ -1,3 +1,4 @@
+-- `entry_of`: each case by `entry-is`; total and usable of a Valid slot that is well-formed fit 32 bits (`cast-fits`).
 use Rattle.opening.proofs.LoadLaws.{entry-is, cast-fits}
 use Rattle.opening.proofs.entry_of.Statement.{statement}
 use Rattle.opening.proofs.entry_of.Tie as tie

@@ -1,3 +1,4 @@
+-- `is_valid`: the four answers of `Partition::parse`, each by `valid-is`.
 use Rattle.opening.proofs.LoadLaws.{valid-is}
 use Rattle.opening.proofs.is_valid.Statement.{statement}
 use Rattle.opening.proofs.is_valid.Tie as tie

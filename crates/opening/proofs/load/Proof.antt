@@ -1,3 +1,5 @@
+-- `load`: entries and parts are those of the first i banks, and which is active is left to those behind (`Loaded`); `load-none` and `load-more` are
+-- start and turn, `load-state` and `load-work` the end.
 use Prim.Native.Nat.{_-_}
 use native.Mathlib.Omega.{arith}
 use borrow.Author.Needs.{needs}

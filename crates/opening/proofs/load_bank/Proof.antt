@@ -1,3 +1,4 @@
+-- `load_bank`: `Partition::serialize` answers and leaves bank i (`serialized-slot`, `serialized-part`); `part-back` puts it into the work area.
 use Prim.Native.Nat.{ℕ, _+_, _-_, _*_}
 use mathlib.Core.Path.{_≡_, refl, _∙_}
 use mathlib.Core.List.{List}

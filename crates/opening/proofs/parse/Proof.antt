@@ -1,3 +1,4 @@
+-- `parse`: its five exits in the order of `opening`, a law for each: `open-1` to `open-4` leave the work area, `open-all` has what `load` leaves.
 use native.Mathlib.Omega.{arith}
 use borrow.Author.Tests.{not-true, not-false}
 use Rattle.opening.proofs.OpeningLaws.{open-1, open-2, open-3, open-4, open-all}

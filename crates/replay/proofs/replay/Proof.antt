@@ -1,3 +1,4 @@
+-- `replay`: no contract; `at` stays within the text and both buffers keep their lengths. It ends since `behind` passes a byte each turn.
 use Prim.Native.Nat.{_≤_, _-_}
 use mathlib.Core.Path.{_≡_}
 use borrow.Author.Needs.{needs}

@@ -1,3 +1,5 @@
+-- `load`: the first i entries are read and their kinds known (`Reading`): `reading-none`, `reading-more` and `read-all` are start, turn and end. Too
+-- few bytes (`read-short`) or a kind over 2 (`unknown`) are no state.
 use Prim.Native.Nat.{_-_}
 use mathlib.Core.Path.{_≡_, sym, ap, _∙_}
 use native.Mathlib.Omega.{arith}

@@ -1,3 +1,4 @@
+-- `put`: four bytes copied to the part from `at` on are put over the bytes there (`over-copy`).
 use Prim.Native.Nat.{ℕ}
 use mathlib.Core.Path.{_≡_, ap, _∙_}
 use mathlib.Core.List.{List}

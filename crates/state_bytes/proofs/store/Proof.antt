@@ -1,3 +1,5 @@
+-- `store`: the entries from i on, put over what is there, are all of them put over what the first `put_three` left (`Writing`): `writing-none`,
+-- `writing-more` and `written` are start, turn and end.
 use mathlib.Core.Path.{_≡_, refl}
 use native.Mathlib.Omega.{arith}
 use lib.ListN.{length, length-map}

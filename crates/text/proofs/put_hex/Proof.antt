@@ -1,3 +1,5 @@
+-- `put_hex`: the digits of the first i bytes are put from `at` up to p; `hex-put` puts two more, `hex-room` says that the rest and `end` fit, and
+-- `join` puts `end`.
 use borrow.Author.Needs.{needs}
 use native.Mathlib.Omega.{arith}
 use Prim.Native.Nat.{_≤_, _-_}

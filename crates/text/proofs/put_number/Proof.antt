@@ -1,3 +1,4 @@
+-- `put_number`: the digits that `io::decimal` leaves are `decimal` (`decimal-digits`); `join` puts the character behind them.
 use Rattle.text.specs.Text.{field}
 use Rattle.text.proofs.PutLaws.{of-field, behind-field, join}
 use Rattle.text.proofs.TextLaws.{decimal-digits}

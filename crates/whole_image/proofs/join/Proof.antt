@@ -1,3 +1,5 @@
+-- `join`: if no slot is overfull, the output begins with the bytes of the slots before i and is as it was behind them (`Joined`); `begin`, `more`
+-- and `done` are start, turn and end. `at` is at most i × 65,536, so that the output has room.
 use borrow.Author.Needs.{needs}
 use native.Mathlib.Omega.{arith}
 use Prim.Native.Nat.{_*_, _-_, _≤_}

@@ -1,3 +1,4 @@
+-- `overfull`: whatever slots they are, one is overfull just if one from i on is (`Passed`); `pass` is the turn, `stop` and `passed` are the exits.
 use borrow.Author.Needs.{needs}
 use native.Mathlib.Omega.{arith}
 use Prim.Native.Nat.{_-_}

@@ -1,3 +1,5 @@
+-- `serialize`: refusals 6, 5 and 13 in that order by `does-6`, `short` and `over-size`; else the image is joined (`written`). `sound` is what is
+-- known after the first test, and `slots-are` the slots that the loops walk.
 use native.Mathlib.Omega.{arith}
 use mathlib.Core.Path.{refl, sym, _∙_}
 use lib.ListN.{length-map}

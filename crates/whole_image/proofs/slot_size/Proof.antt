@@ -1,3 +1,5 @@
+-- `slot_size`: 0 unless the entry is Valid (`size-none`); else by the head that was read (`size-valid`), which is a good one, so that the exits for
+-- faults are not reached.
 use borrow.Author.Needs.{needs}
 use native.Mathlib.Omega.{arith}
 use lib.ListN.{getD}

@@ -1,3 +1,4 @@
+-- `normalize`: both lengths read are those of the record (`name-is`, `value-is`), so that the closing byte is at 35 + name length.
 use native.Mathlib.Omega.{arith}
 use mathlib.Core.Path.{_≡_, ap}
 use Prim.Native.Nat.{ℕ, _-_, _+_}

@@ -1,3 +1,5 @@
+-- `normalize_all`: whatever records stand there, what is left to zero from `at` on is a law's `ToNormalize`; `begin`, `step-next` and `done` are
+-- start, turn and end.
 use borrow.Rule.Slice.PartMut.{same-len-mid}
 use lib.ListN.{length-set, length, take, drop}
 use native.Mathlib.Omega.{arith}

@@ -1,3 +1,5 @@
+-- `read_partition`: Invalid where the stop spoils the bank (`read-spoiled`), else Valid (`read-kept`); `at-within` and `blank-within` give what
+-- `usable` requires.
 use native.Mathlib.Omega.{arith}
 use mathlib.Core.Path.{sym, _∙_}
 use Rattle.bank.proofs.ReadBank.{head-fine}

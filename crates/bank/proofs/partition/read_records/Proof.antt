@@ -1,3 +1,4 @@
+-- `read_records`: the walk from 24 stops where and why that from `at` does; `turn-next` passes a record, `turn-halt` and `turn-end` are the exits.
 use native.Mathlib.Omega.{arith}
 use borrow.Author.Needs.{needs}
 use mathlib.Core.Path.{_≡_, refl, sym, _∙_}

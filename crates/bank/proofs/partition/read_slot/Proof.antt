@@ -1,3 +1,5 @@
+-- `read_slot`: by the head. A good one is `read_partition`'s, a wrong size is Invalid (`read-size`), the others are `read_erased`'s (`read-version`,
+-- `read-signature`).
 use Rattle.bank.proofs.PartitionLaws.{read-size, read-version, read-signature}
 use Rattle.bank.proofs.partition.read_slot.Statement.{statement}
 use Rattle.bank.proofs.partition.read_slot.Tie as tie

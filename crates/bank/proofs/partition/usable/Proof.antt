@@ -1,3 +1,5 @@
+-- `usable`: by the six reasons to stop. A blank's 36 bytes end below size, as is required; the bytes 0xFF counted behind them are no more than there
+-- are (`count-ff-le`).
 use lib.ListN.{take, drop, length-take}
 use Rattle.buffers.proofs.Laws.{count-ff-le}
 use Rattle.bank.specs.Read.{usableAt}

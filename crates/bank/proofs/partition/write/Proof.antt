@@ -1,3 +1,5 @@
+-- `write`: `given` is the bank that was read. Its copy holds the records as they stand (`copied-raw`), which `normalize_all` asks for; what is left
+-- once the rest is filled is the part (`filled`).
 use lib.ListN.{length, length-replicate}
 use Prim.Native.Nat.{_-_}
 use Rattle.bank.proofs.WriteLaws.{Given, total-low, total-high, copied-raw, copied-long, written-long, length-written, filled}

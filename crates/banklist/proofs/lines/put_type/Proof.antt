@@ -1,3 +1,4 @@
+-- `put_type`: by the type; its letter and the space are one text, which `field` and `typeWord` unfold to.
 use Rattle.text.specs.Text.{field}
 use Rattle.banklist.specs.Listing.{typeWord}
 use Rattle.banklist.proofs.lines.put_type.Statement.{statement}

@@ -1,3 +1,4 @@
+-- `record_line`: field by field; `first`, `next` and `last` give each its room, and `join` makes the line of them.
 use mathlib.Core.Path.{ap, sym}
 use lib.ListN.{length}
 use borrow.Author.Needs.{needs}

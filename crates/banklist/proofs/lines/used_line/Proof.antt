@@ -1,3 +1,4 @@
+-- `used_line`: field by field; `first`, `next` and `last` give each its room, and `join` makes the line of them.
 use borrow.Author.Needs.{needs}
 use Rattle.text.specs.Text.{field, line}
 use Rattle.text.proofs.PutLaws.{join, fields, first, next, last}

@@ -1,3 +1,5 @@
+-- `bank_lines`: three parts one behind the other are the bank's lines (`all-put`), each with the room that those before it leave (`room-first`,
+-- `room-records`, `room-last`).
 use mathlib.Core.Path.{_≡_}
 use Rattle.banklist.proofs.BankLaws.{total-is, room-first, room-records, room-last, all-put}
 use Rattle.banklist.proofs.listing.bank_lines.Statement.{statement}

@@ -1,3 +1,5 @@
+-- `listing`: a short `out` is left alone (`left-alone`); else by what the reader answers (`said`) a text is put at its front (`left-listed`). A
+-- bank's lines fit (`listing-fits`).
 use mathlib.Core.Path.{sym, _∙_}
 use native.Mathlib.Omega.{arith}
 use lib.Seq.{length-take-le}

@@ -1,3 +1,5 @@
+-- `record_lines`: the lines of the records before `at` are put and those from it on are left (`ToList`); `left-all`, `left-turn` and `left-none` are
+-- start, turn and end, and `left-sized` keeps the places within the bank.
 use borrow.Author.Needs.{needs}
 use native.Mathlib.Omega.{arith}
 use Prim.Native.Nat.{_-_}

@@ -1,3 +1,4 @@
+-- `fields`: zeros unless the slot is Valid, whose eight numbers are `slotFields` of it.
 use mathlib.Core.Path.{sym, ap}
 use Rattle.exports.specs.Numbers.{slotFields}
 use Rattle.exports.proofs.partition.fields.Statement.{statement}

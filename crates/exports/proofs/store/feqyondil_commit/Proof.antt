@@ -1,3 +1,5 @@
+-- `feqyondil_commit`: 6 where the bytes hold no state (`calls-6`), else the contract of `apply` on the state that was loaded, stored again
+-- (`calls`); there is room to store it since it was read (`read-is`).
 use mathlib.Core.Path.{refl}
 use borrow.Author.Tests.{not-true, not-false}
 use lib.ListN.{length}

@@ -1,3 +1,5 @@
+-- `feqyondil_insert`: 6 where the bytes hold no state (`calls-6`), else the contract of `insert_variable` on the state that was loaded, stored again
+-- (`calls`); there is room to store it since it was read (`read-is`).
 use borrow.Author.Tests.{not-true, not-false}
 use mathlib.Core.Path.{refl}
 use mathlib.Core.List.{[]}

@@ -1,3 +1,4 @@
+-- `feqyondil_lookup`: 6 and zeros where the bytes hold no state (`calls-6`), else the contract of `get_variable` on the state loaded (`keeps`).
 use native.Mathlib.Omega.{arith}
 use borrow.Author.Tests.{not-true, not-false}
 use mathlib.Core.Path.{refl}

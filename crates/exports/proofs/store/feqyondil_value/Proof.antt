@@ -1,3 +1,4 @@
+-- `feqyondil_value`: no value where the bytes hold no state (`calls-6`), else the contract of `value` on the state loaded (`keeps`).
 use mathlib.Core.Path.{refl, sym}
 use mathlib.Core.List.{[]}
 use native.Mathlib.Omega.{arith}

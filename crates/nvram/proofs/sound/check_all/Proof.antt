@@ -1,3 +1,5 @@
+-- `check_all`: its tests in the order of `inRange`, each exit by the law of that test (`view-low`, `view-high`, `view-outside`, `view-short`); then
+-- `check_slots` (`view-slots`).
 use native.Mathlib.Omega.{arith}
 use mathlib.Core.Path.{_∙_}
 use Rattle.records.proofs.CheckedLaws.{checked-none}

@@ -1,3 +1,5 @@
+-- `check_bank`: its six tests in the order of `viewHead`, each exit by the law of that test (`bank-reserved` to `bank-rest`); then `check_records`
+-- (`bank-records`, `checked-slot`).
 use native.Mathlib.Omega.{arith}
 use mathlib.Core.Path.{_≡_, sym, ap, _∙_}
 use mathlib.Core.Bool.{true, false}

@@ -1,3 +1,5 @@
+-- `check_slots`: the check of all slots is that of those from i on with the figures so far (`walkFrom`); `walk-start` and `walk-holds` are start and
+-- turn, `walk-fails`, `walk-unfree` and `walk-free` the exits.
 use borrow.Author.Needs.{needs}
 use native.Mathlib.Omega.{arith}
 use Prim.Native.Nat.{_-_, _≤_}

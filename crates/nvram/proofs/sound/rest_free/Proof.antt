@@ -1,3 +1,4 @@
+-- `rest_free`: the answer for the entries from n on is that for those from i on; by `free-more` entry i is passed or decides; `free-none` ends it.
 use borrow.Author.Needs.{needs}
 use native.Mathlib.Omega.{arith}
 use Prim.Native.Nat.{_-_}

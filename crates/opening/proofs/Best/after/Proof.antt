@@ -1,3 +1,4 @@
+-- `Best::after`: by what the slot was read as; only a Valid one of a greater generation takes over. Each exit by `active-is`.
 use Rattle.opening.proofs.LoadLaws.{active-is}
 use Rattle.opening.proofs.Best.after.Statement.{statement}
 use Rattle.opening.proofs.Best.after.Tie as tie

@@ -1,3 +1,5 @@
+-- `check_records`: the check of s is that of its bytes from `at` on, with the sums so far added (`Walked`): `begin`, `turn`, `stopped` and `done`.
+-- Neither sum is over `at`, so adding a record's size stays in range.
 use native.Mathlib.Omega.{arith}
 use borrow.Author.Needs.{needs}
 use Prim.Native.Nat.{ℕ, _-_, _≤_}

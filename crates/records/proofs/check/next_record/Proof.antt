@@ -1,3 +1,5 @@
+-- `next_record`: its tests in the order of `isRecord`; the first three fail against a fact of `Strict` (`no-next`), the others have a law each
+-- (`next-beyond`, `next-open`, `next-spoilt`), and a record that passes all ends where `next-end` says.
 use native.Mathlib.Omega.{arith}
 use borrow.Author.Needs.{needs}
 use Rattle.bank.specs.Number.{u16At}

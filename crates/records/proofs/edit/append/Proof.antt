@@ -1,3 +1,4 @@
+-- `append`: four writes one behind the other, header (`fresh-bytes`), key, closing byte and value, are the record put over the work area: `four-is`.
 use native.Mathlib.Omega.{arith}
 use Rattle.records.proofs.AppendLaws.{fresh-bytes, three-long, four-is, four-long}
 use Rattle.records.proofs.edit.append.Statement.{statement}

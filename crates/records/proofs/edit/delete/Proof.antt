@@ -1,3 +1,5 @@
+-- `delete`: whether the record matches or not, `deletedAt` is left (`left-is`, by `delete-match` and `delete-other`); the size is that of the header
+-- read (`size-read`).
 use native.Mathlib.Omega.{arith}
 use mathlib.Core.Path.{_≡_, sym, ap, _∙_}
 use mathlib.Core.Logic.{⊎-elim}

@@ -1,3 +1,4 @@
+-- `delete_all`: whatever records stand there, a law's `ToDelete` is what is left from `at` on; `begin`, `turn` and `done` are start, turn and end.
 use borrow.Author.Needs.{needs}
 use native.Mathlib.Omega.{arith}
 use Prim.Native.Nat.{_-_, _≤_}

@@ -1,3 +1,5 @@
+-- `find`: whatever records stand there, what is found from `at` on is what is found in all (`Look`); `look`, `see` and `unseen` are start, turn and
+-- end, and a match leaves by the `hit` of `see`.
 use borrow.Author.Needs.{needs}
 use native.Mathlib.Omega.{arith}
 use Prim.Native.Nat.{_-_}

@@ -1,3 +1,5 @@
+-- `is_match`: its three tests in the order of `matches`, each exit by the law of that test (`match-dead`, `match-other`, `match-type`); `strict` of
+-- what is required bounds the indices.
 use native.Mathlib.Omega.{arith}
 use Prim.Native.Nat.{_-_}
 use mathlib.Core.Path.{_≡_, sym, _∙_}

@@ -1,3 +1,4 @@
+-- `put_value`: `at` stays within `out`, which keeps its length; k counts up to `count`.
 use Prim.Native.Nat.{_≤_, _-_}
 use mathlib.Core.Path.{_≡_}
 use borrow.Author.Needs.{needs}

@@ -1,3 +1,4 @@
+-- `state_right`: no contract; i stays within the 16 entries.
 use Prim.Native.Nat.{_≤_, _-_}
 use borrow.Author.Needs.{needs}
 use Rattle.replay.proofs.calls.state_right.Statement.{statement}

@@ -1,3 +1,4 @@
+-- `end`: i stays between `from` and the length.
 use Prim.Native.Nat.{_≤_, _-_}
 use borrow.Author.Needs.{needs}
 use lib.ListN.{length}

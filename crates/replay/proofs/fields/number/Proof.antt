@@ -1,3 +1,4 @@
+-- `number`: no contract; i stays within s.
 use Prim.Native.Nat.{_≤_, _-_}
 use borrow.Author.Needs.{needs}
 use lib.ListN.{length}

@@ -1,3 +1,4 @@
+-- `put_bytes`: p stays within `out`, which keeps its length, and i within the text.
 use lib.ListN.{length-set, length}
 use Prim.Native.Nat.{_≤_, _-_}
 use mathlib.Core.Path.{_≡_}

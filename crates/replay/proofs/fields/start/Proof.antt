@@ -1,3 +1,4 @@
+-- `start`: i stays within s; `left` is taken from only where it is not 0.
 use Prim.Native.Nat.{_≤_, _-_}
 use borrow.Author.Needs.{needs}
 use lib.ListN.{length}

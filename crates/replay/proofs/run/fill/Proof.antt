@@ -1,3 +1,4 @@
+-- `fill`: no contract; i stays within s, which keeps its length.
 use Prim.Native.Nat.{_≤_, _-_}
 use mathlib.Core.Path.{_≡_}
 use borrow.Author.Needs.{needs}

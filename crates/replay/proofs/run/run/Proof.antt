@@ -1,3 +1,4 @@
+-- `run`: `at` stays between `from` and the text's end, and both buffers keep their lengths. It ends since `behind` passes a byte each turn.
 use Prim.Native.Nat.{_≤_, _-_}
 use mathlib.Core.Path.{_≡_}
 use borrow.Author.Needs.{needs}

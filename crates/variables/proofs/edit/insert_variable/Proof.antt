@@ -1,3 +1,5 @@
+-- `insert_variable`: `at-hand` says that the records stand where `ready` answers. Its exits: 6 and 7 (`refused`), 8 (`no-room`), and what deleting,
+-- appending and the grown entry leave (`inserts`).
 use Prim.Native.Nat.{_+_, _≤_}
 use lib.ListN.{length, length-map}
 use native.Mathlib.Omega.{arith}

@@ -1,3 +1,4 @@
+-- `refusal`: one of its three tests holds just if total and record together are over 131,072; each exit is arithmetic.
 use Prim.Native.Nat.{_+_, _≤_, _<_}
 use native.Mathlib.Omega.{arith}
 use borrow.Author.Tests.{le-leb, lt-leb}

@@ -1,3 +1,4 @@
+-- `remove_variable`: `at-hand` says that the records stand where `ready` answers; 6 and 7 are `refused`, and what deleting leaves is `removes`.
 use native.Mathlib.Omega.{arith}
 use lib.ListN.{length-map}
 use borrow.Author.Needs.{needs}

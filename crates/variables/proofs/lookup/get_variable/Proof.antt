@@ -1,3 +1,5 @@
+-- `get_variable`: `at-hand` says that the records stand where `ready` answers. Its exits: 6 and 7 (`refused`), found (`finds`), and not found
+-- (`finds-nothing`).
 use native.Mathlib.Omega.{arith}
 use mathlib.Core.Path.{sym, _∙_}
 use lib.ListN.{length-map}

@@ -1,3 +1,4 @@
+-- `value`: by the answer of `get_variable` (`heard`). What is found lies in the work area and is the value (`fetch-at`); else it is `fetch-none`.
 use Prim.Native.Nat.{ℕ, _+_, _-_}
 use lib.ListN.{take, drop, length-map}
 use Rattle.book.specs.Call.{lookup}

@@ -1,3 +1,5 @@
+-- `StoreHeader::parse`: its faults in the order of `readHeader`, each exit by the law of that fault (`head-signature`, `head-version`, `head-small`,
+-- `head-big`), and `head-good`.
 use Rattle.bank.specs.Header.{headerOf}
 use Rattle.bank.proofs.HeaderLaws.{head-signature, head-version, head-small, head-big, head-good}
 use Rattle.bank.proofs.FieldLaws.{signed-short, signed-as}

@@ -1,3 +1,4 @@
+-- `StoreHeader::serialize`: `le32` gives four bytes for each of the four numbers, and `header-is` says that these and the others are `headerBytes`.
 use Rattle.bank.proofs.FieldLaws.{header-is}
 use Rattle.bank.proofs.header.StoreHeader.serialize.Statement.{statement}
 use Rattle.bank.proofs.header.StoreHeader.serialize.Tie as tie

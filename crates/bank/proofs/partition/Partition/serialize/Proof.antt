@@ -1,3 +1,5 @@
+-- `Partition::serialize`: too short a part is left (`room-short`); else by the slot that was parsed, which is the answer (`slot-is`), the part is
+-- `valid-part`, `part-short`, `part-empty` or `part-invalid`.
 use Rattle.bank.proofs.SerializeLaws.{room-short, slot-is, part-short, valid-long, valid-read, valid-part, part-empty, part-invalid}
 use Rattle.bank.proofs.partition.Partition.serialize.Statement.{statement}
 use Rattle.bank.proofs.partition.Partition.serialize.Tie as tie

@@ -1,3 +1,4 @@
+-- `VarHeader::parse`: zeros of fewer than 36 bytes (`header-short`), else the fields (`header-long`); the GUID is copied whole (`onto-whole`).
 use lib.ListN.{length, length-take, length-drop, take, drop}
 use Prim.Native.Nat.{ℕ}
 use mathlib.Core.Path.{_≡_, sym, _∙_}

@@ -1,3 +1,5 @@
+-- `VarHeader::serialize`: written from the front on; after each copy `Front` says which bytes stand so far (`front`, `next`, `front-all`), and
+-- `length-kept` that there are still 36.
 use lib.ListN.{length, length-map}
 use mathlib.Core.List.{append-assoc}
 use Rattle.bank.specs.Record.{varHeaderBytes}

@@ -1,3 +1,5 @@
+-- `Variable::parse`: its tests in the order of `found`, each exit by the law of that test: `found-blank`, `found-start`, `step-length`, `step-name`,
+-- `step-crc`, and `step-next` for a record.
 use Prim.Native.Nat.{ℕ}
 use mathlib.Core.Path.{_≡_, sym, ap}
 use mathlib.Core.List.{List}

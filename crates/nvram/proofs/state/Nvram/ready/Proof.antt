@@ -1,3 +1,4 @@
+-- `Nvram::ready`: 6 where the test fails (`ready-6`), else by the kind of the active entry (`ready-as`), which is in the table (`active-in`).
 use native.Mathlib.Omega.{arith}
 use mathlib.Core.Path.{sym, ap, _∙_}
 use lib.ListN.{length-map}

@@ -1,3 +1,4 @@
+-- `Figures::count`: not to be counted, not live (`count-dead`), or added to the section that its GUID names (`count-live`).
 use borrow.Author.Tests.{not-true, not-false}
 use Rattle.records.proofs.FigureLaws.{count-dead, count-live}
 use Rattle.records.proofs.figures.Figures.count.Statement.{statement}
