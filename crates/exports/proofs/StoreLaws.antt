@@ -1,5 +1,5 @@
 -- The contracts of the exported calls, from those of the calls: 6 where the bytes hold no state (`calls-6`), else by the state that was loaded
--- (`calls`, `keeps`, `removes`); and of the exported opening (`opens-6`, `opens`).
+-- (`calls`, `keeps`, `exported-remove`); and of the exported opening (`opens-6`, `opens`).
 use Prim.Native.Nat.{ℕ, _≤_, _<_}
 use mathlib.Core.Path.{_≡_, refl, sym, ap, _∙_, subst}
 use mathlib.Core.List.{List, []}

@@ -1,4 +1,4 @@
--- `feqyondil_remove`: 6 where the bytes hold no state (`calls-6`), else `removes`: a remove leaves the state, so that its bytes need no store.
+-- `feqyondil_remove`: 6 where the bytes hold no state (`calls-6`), else `exported-remove`: a remove leaves the state, so that its bytes need no store.
 use native.Mathlib.Omega.{arith}
 use borrow.Author.Tests.{not-true, not-false}
 use mathlib.Core.Path.{refl}
