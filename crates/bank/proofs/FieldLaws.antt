@@ -130,13 +130,13 @@ pub record Front (w : List ℕ) (at : ℕ) (p : List ℕ) : Type 0 where
   pub whole : Length36 w
   pub begins : take at w ≡ p
 
-pub front : (state : ℕ) → Front (0xAA ∷ 0x55 ∷ state ∷ replicate 33 0) 4 (0xAA ∷ 0x55 ∷ state ∷ 0 ∷ [])
-front state = record { whole = length-36 state; begins = refl }
+pub header-front : (state : ℕ) → Front (0xAA ∷ 0x55 ∷ state ∷ replicate 33 0) 4 (0xAA ∷ 0x55 ∷ state ∷ 0 ∷ [])
+header-front state = record { whole = length-36 state; begins = refl }
 
-pub next : {w : List ℕ} {at : ℕ} {p x y z : List ℕ} (m : ℕ) → Front w at p → x ≡ z → length z ≡ m → at + m ≤ 36
+pub header-next : {w : List ℕ} {at : ℕ} {p x y z : List ℕ} (m : ℕ) → Front w at p → x ≡ z → length z ≡ m → at + m ≤ 36
     → y ≡ onto x (take (36 - at) (drop at w))
     → Front (tailed at w y) (at + m) (p ++ z)
-next {w} {at} {p} {x} {y} {z} m f q l h e =
+header-next {w} {at} {p} {x} {y} {z} m f q l h e =
     let rest = take (36 - at) (drop at w) in
     let after = drop (36 - at) (drop at w) in
     let k : length x ≡ m = ap length q ∙ l in

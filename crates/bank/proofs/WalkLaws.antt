@@ -14,7 +14,7 @@ use Rattle.bank.specs.declared.partition.Stop.{Stop}
 use Rattle.bank.specs.declared.partition.Stop.the-variants.{Blank, Start, Length, End, Name, Crc}
 use Rattle.bank.specs.Number.{u16At, u32At}
 use Rattle.bank.specs.Record.{Record, recordOf, sizeOf, sizes, nameAt, valueAt, sizeAt}
-use Rattle.bank.specs.Read.{Item, got, halt, found, Walk, halted, withFirst, after, turn, walk, walkFrom}
+use Rattle.bank.specs.Read.{Item, got, halt, found, Walk, halted, withFirst, after, walkTurn, walk, walkFrom}
 
 -- what holds in both cases of a test
 pub by-test : {A : Type 0} (P : A → Type 0) (t : Bool) (x y : A) → (t ≡ true → P x) → (t ≡ false → P y) → P (cond t x y)
@@ -102,7 +102,7 @@ after-same (halt c) at f g h = refl
 
 -- once the turns suffice, their number does not matter
 walk-more : (f g : ℕ) (s : List ℕ) (size at : ℕ) → size ≤ at + f → size ≤ at + g → walk f s size at ≡ walk g s size at
-unfolding walk turn
+unfolding walk walkTurn
 walk-more zero zero s size at p q = refl
 walk-more zero (suc g) s size at p q = simp (le-ltb (at + 36) size (omega arith))
 walk-more (suc f) zero s size at p q = simp (le-ltb (at + 36) size (omega arith))
@@ -110,22 +110,22 @@ walk-more (suc f) (suc g) s size at p q =
     go (ltb (at + 36) size) (λ n l. walk-more f g s size n (omega arith) (omega arith))
   where
     go : (t : Bool) → ((n : ℕ) → at < n → walk f s size n ≡ walk g s size n)
-        → turn t s (λ n. walk f s size n) at ≡ turn t s (λ n. walk g s size n) at
+        → walkTurn t s (λ n. walk f s size n) at ≡ walkTurn t s (λ n. walk g s size n) at
     go true h = after-same _ at _ _ h
     go false h = refl
 
-walk-turn : (s : List ℕ) (size at : ℕ) → 0 < size → walkFrom s size at ≡ turn (ltb (at + 36) size) s (walkFrom s size) at
+walk-turn : (s : List ℕ) (size at : ℕ) → 0 < size → walkFrom s size at ≡ walkTurn (ltb (at + 36) size) s (walkFrom s size) at
 unfolding walkFrom walk
 walk-turn s zero at p = absurd (not-suc-le-zero p)
 walk-turn s (suc n) at p = walk-more (suc n) (suc (suc n)) s (suc n) at (omega arith) (omega arith)
 
 pub walk-end : (s : List ℕ) (size at : ℕ) → size ≤ at + 36 → walkFrom s size at ≡ halted End at
-unfolding walkFrom walk turn
+unfolding walkFrom walk walkTurn
 walk-end s zero at h = refl
 walk-end s (suc n) at h = simp (le-ltb (at + 36) (suc n) h)
 
 pub walk-next : (s : List ℕ) (size at : ℕ) → at + 36 < size → walkFrom s size at ≡ after (found (drop at s)) at (walkFrom s size)
-unfolding turn
+unfolding walkTurn
 walk-next s size at h = rw (walk-turn s size at (omega arith)) (simp (lt-ltb (at + 36) size h))
 
 pub walk-got : (s : List ℕ) (size at : ℕ) (r : Record) → at + 36 < size → found (drop at s) ≡ got r

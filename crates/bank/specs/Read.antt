@@ -49,14 +49,14 @@ after (got r) at go = withFirst r (go (at + sizeOf r))
 after (halt c) at go = halted c at
 
 -- one turn of the loop `while offset + 36 < size`
-unfoldable pub turn : Bool → List ℕ → (ℕ → Walk) → ℕ → Walk
-turn true s go at = after (found (drop at s)) at go
-turn false s go at = halted End at
+unfoldable pub walkTurn : Bool → List ℕ → (ℕ → Walk) → ℕ → Walk
+walkTurn true s go at = after (found (drop at s)) at go
+walkTurn false s go at = halted End at
 
 -- each record is longer than one byte, so size is turns enough
 unfoldable pub walk : ℕ → List ℕ → ℕ → ℕ → Walk
 walk zero s size at = halted End at
-walk (suc n) s size at = turn (ltb (at + 36) size) s (λ next. walk n s size next) at
+walk (suc n) s size at = walkTurn (ltb (at + 36) size) s (λ next. walk n s size next) at
 
 unfoldable pub walkFrom : List ℕ → ℕ → ℕ → Walk
 walkFrom s size at = walk size s size at

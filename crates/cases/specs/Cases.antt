@@ -12,7 +12,7 @@ use Rattle.bank.specs.Header.{headerBytes, headerOf, signed, readHeader}
 use Rattle.bank.specs.Record as record-specs
 use Rattle.bank.specs.Record.{Record, sizeOf, sizes, deletedState, varHeaderBytes, recordBytes, recordOf, commonGuid}
 use Rattle.bank.specs.Bank.{Slot, empty, invalid, valid, bankSize, padded, bankOf}
-use Rattle.bank.specs.Read.{found, after, turn, walk, walkFrom, usableAt, slotOf, erasedSlot, afterHead, readBank}
+use Rattle.bank.specs.Read.{found, after, walkTurn, walk, walkFrom, usableAt, slotOf, erasedSlot, afterHead, readBank}
 use Rattle.bank.specs.Totals.{select, total, liveTotal, liveOf}
 use Rattle.records.specs.Figures.{figuresBy, plus, figuresOf}
 use Rattle.book.specs.Book.{partSize, Book}
@@ -34,8 +34,8 @@ abbrev digits : List ℕ
 digits = 0x31 ∷ 0x32 ∷ 0x33 ∷ 0x34 ∷ 0x35 ∷ 0x36 ∷ 0x37 ∷ 0x38 ∷ 0x39 ∷ []
 
 -- a live common record
-abbrev live : List ℕ → List ℕ → Record
-live key value = record { state = 0x7F; attributes = 0; guid = commonGuid; key = key; value = value }
+abbrev liveRecord : List ℕ → List ℕ → Record
+liveRecord key value = record { state = 0x7F; attributes = 0; guid = commonGuid; key = key; value = value }
 
 abbrev header : ℕ → ℕ → StoreHeader
 header size generation =
@@ -89,11 +89,11 @@ table =
     (begins (opening (replicate 65535 255) 131072) is 1 ∷ [])
     ∷ (begins (opening (blank 5 ++ replicate 65535 255) 131072) is 0 ∷ 1 ∷ 0 ∷ [])
     -- P2 empty key and value: size 37. P3 key `a`, no value: 38
-    ∷ (sizeOf (live [] []) ∷ [] is 37 ∷ [])
-    ∷ (sizeOf (live (0x61 ∷ []) []) ∷ [] is 38 ∷ [])
+    ∷ (sizeOf (liveRecord [] []) ∷ [] is 37 ∷ [])
+    ∷ (sizeOf (liveRecord (0x61 ∷ []) []) ∷ [] is 38 ∷ [])
     -- P4 size 60: no record is looked at. P5 size 61: one of 37 fits
-    ∷ (figures (readBank (bank 60 (recordBytes (live [] [])))) is 24 ∷ 60 ∷ 0 ∷ [])
-    ∷ (figures (readBank (bank 61 (recordBytes (live [] [])))) is 61 ∷ 61 ∷ 1 ∷ [])
+    ∷ (figures (readBank (bank 60 (recordBytes (liveRecord [] [])))) is 24 ∷ 60 ∷ 0 ∷ [])
+    ∷ (figures (readBank (bank 61 (recordBytes (liveRecord [] [])))) is 61 ∷ 61 ∷ 1 ∷ [])
     -- P6 generations 3, 5, 5: active 1
     ∷ (begins (opening (blank 3 ++ (blank 5 ++ blank 5)) 393216) is 0 ∷ 3 ∷ 1 ∷ [])
     -- P7 Invalid, then Valid with 0: opens, edits give 7
@@ -117,5 +117,5 @@ Computed [] = Unit {0}
 Computed (r ∷ rs) = (r .got ≡ r .want) × Computed rs
 
 pub cases : Computed table
-unfolding table figures begins writes afterwards opening readSlots activeFrom anyValid bankSize partSize step bySlot editBank editAs refusedEdit editedBy grows moveIn commitAs commitBank commitTo judgeBank judge due request select liveTotal liveOf figuresOf figuresBy plus record-specs.live crc32Of byteSteps byteStep bitSteps bitStep polyIf allFF allBlank countFF eqBytes u16At u32At le32 headerBytes headerOf signed readHeader sizeOf sizes deletedState varHeaderBytes recordBytes recordOf padded found after turn walk walkFrom usableAt slotOf erasedSlot afterHead readBank total
+unfolding table figures begins writes afterwards opening readSlots activeFrom anyValid bankSize partSize step bySlot editBank editAs refusedEdit editedBy grows moveIn commitAs commitBank commitTo judgeBank judge due request select liveTotal liveOf figuresOf figuresBy plus record-specs.live crc32Of byteSteps byteStep bitSteps bitStep polyIf allFF allBlank countFF eqBytes u16At u32At le32 headerBytes headerOf signed readHeader sizeOf sizes deletedState varHeaderBytes recordBytes recordOf padded found after walkTurn walk walkFrom usableAt slotOf erasedSlot afterHead readBank total
 cases = (refl, (refl, (refl, (refl, (refl, (refl, (refl, (refl, (refl, (refl, (refl, (refl, (refl, (refl, (refl, (refl, tt))))))))))))))))

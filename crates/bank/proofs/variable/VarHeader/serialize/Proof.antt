@@ -1,9 +1,9 @@
--- `VarHeader::serialize`: written from the front on; after each copy `Front` says which bytes stand so far (`front`, `next`, `front-all`), and
+-- `VarHeader::serialize`: written from the front on; after each copy `Front` says which bytes stand so far (`header-front`, `header-next`, `front-all`), and
 -- `length-kept` that there are still 36.
 use lib.ListN.{length, length-map}
 use mathlib.Core.List.{append-assoc}
 use Rattle.bank.specs.Record.{varHeaderBytes}
-use Rattle.bank.proofs.FieldLaws.{length-36, length-kept, front, next, front-all}
+use Rattle.bank.proofs.FieldLaws.{length-36, length-kept, header-front, header-next, front-all}
 use Rattle.bank.proofs.NumberLaws.{length-le32}
 use Rattle.bank.proofs.variable.VarHeader.serialize.Statement.{statement}
 use Rattle.bank.proofs.variable.VarHeader.serialize.Tie as tie
@@ -125,11 +125,11 @@ returns c = let made = c .before .before .before .before .before .before .before
     let entry = made .before .before .before .before .before in
     let self = entry .args .self in
     let n : length (self .guid) ≡ 16 = simp length-map at (entry .good .0 .1 .1 .1 .1 .1 .1 .0 .1 .0 .1) in
-    let attrs = next 4 (front (self .state)) (made .before .before .before .before .le32 .ensures) (length-le32 _) (omega arith) (c .before .before .before .before .before .before .before .before .before .before .before .before .before .before .before .before .before .copy .ensures) in
-    let name = next 4 attrs (made .before .before .before .le322 .ensures) (length-le32 _) (omega arith) (c .before .before .before .before .before .before .before .before .before .before .before .before .before .copy2 .ensures) in
-    let value = next 4 name (made .before .before .le323 .ensures) (length-le32 _) (omega arith) (c .before .before .before .before .before .before .before .before .before .copy3 .ensures) in
-    let guid = next {z = self .guid} 16 value refl n (omega arith) (c .before .before .before .before .before .copy4 .ensures) in
-    let crc = next 4 guid (made .le324 .ensures) (length-le32 _) (omega arith) (c .before .copy5 .ensures) in
+    let attrs = header-next 4 (header-front (self .state)) (made .before .before .before .before .le32 .ensures) (length-le32 _) (omega arith) (c .before .before .before .before .before .before .before .before .before .before .before .before .before .before .before .before .before .copy .ensures) in
+    let name = header-next 4 attrs (made .before .before .before .le322 .ensures) (length-le32 _) (omega arith) (c .before .before .before .before .before .before .before .before .before .before .before .before .before .copy2 .ensures) in
+    let value = header-next 4 name (made .before .before .le323 .ensures) (length-le32 _) (omega arith) (c .before .before .before .before .before .before .before .before .before .copy3 .ensures) in
+    let guid = header-next {z = self .guid} 16 value refl n (omega arith) (c .before .before .before .before .before .copy4 .ensures) in
+    let crc = header-next 4 guid (made .le324 .ensures) (length-le32 _) (omega arith) (c .before .copy5 .ensures) in
     front-all crc ∙ simp append-assoc
 
 pub serialize-spec : {M : Type 1} → statement M
