@@ -10,7 +10,7 @@ use lib.Seq.{drop-length, take-all, take-at}
 use borrow.Rule.Slice.PartMut.{same-len-mid}
 use borrow.Author.Tests.{le-leb, lt-leb}
 use Rattle.crc32.specs.Crc32.{crc32Of}
-use Rattle.buffers.specs.Bytes.{onto, allBlank, eqBytes}
+use Rattle.buffers.specs.Bytes.{onto, eqBytes}
 use Rattle.buffers.proofs.Laws.{onto-fits, length-onto}
 use Rattle.bank.specs.declared.header.StoreHeader.{StoreHeader}
 use Rattle.bank.specs.declared.variable.VarHeader.{VarHeader}
@@ -75,14 +75,14 @@ module _ (s : List ℕ) (long : 36 ≤ length s) (h : VarHeader) (e : h ≡ pars
   crc-is = ap (λ (x : VarHeader). x .crc) (e ∙ header-long s long)
 
 -- the steps behind a record's header, in the numbers that the code has
-module _ (s : List ℕ) (a : allBlank (take 36 s) ≡ false) (b : u16At s 0 ≡ 0x55AA) (long : 36 ≤ length s) (h : VarHeader)
+module _ (s : List ℕ) (b : u16At s 0 ≡ 0x55AA) (long : 36 ≤ length s) (h : VarHeader)
     (e : h ≡ parsedHeader s) (end : ℕ) (size : end ≡ 36 + h .«name_size» + h .«data_size») where
   size-is : end ≡ sizeAt s
   size-is = omega (arith, (name-is s long h e), (value-is s long h e))
 
   pub step-length : length s < end → Halt Length ≡ stepOf (found s)
   unfolding stepOf
-  step-length l = ap stepOf (sym (found-length s a b (omega (arith, size-is))))
+  step-length l = ap stepOf (sym (found-length s b (omega (arith, size-is))))
 
   module _ (fits : end ≤ length s) where
     ends : sizeAt s ≤ length s
@@ -90,7 +90,7 @@ module _ (s : List ℕ) (a : allBlank (take 36 s) ≡ false) (b : u16At s 0 ≡ 
 
     pub step-name : h .«name_size» ≡ 0 → Halt Name ≡ stepOf (found s)
     unfolding stepOf
-    step-name n = ap stepOf (sym (found-name s a b ends (omega (arith, (name-is s long h e)))))
+    step-name n = ap stepOf (sym (found-name s b ends (omega (arith, (name-is s long h e)))))
 
     module _ (named : h .«name_size» ≡ 0 → ⊥) (value : ℕ) (from : value ≡ 36 + h .«name_size» + 0) (sum : ℕ)
         (summed : sum ≡ crc32Of (take (end - value) (drop value s))) where
@@ -105,12 +105,12 @@ module _ (s : List ℕ) (a : allBlank (take 36 s) ≡ false) (b : u16At s 0 ≡ 
 
       pub step-crc : (h .crc ≡ sum → ⊥) → Halt Crc ≡ stepOf (found s)
       unfolding stepOf
-      step-crc f = ap stepOf (sym (found-crc s a b ends has-name (λ g. f ((crc-is s long h e) ∙ g ∙ sym sum-is))))
+      step-crc f = ap stepOf (sym (found-crc s b ends has-name (λ g. f ((crc-is s long h e) ∙ g ∙ sym sum-is))))
 
       pub step-next : h .crc ≡ sum → Next end ≡ stepOf (found s)
       unfolding stepOf
       step-next f =
-          ap Next (size-is ∙ sym (size-of s ends has-name)) ∙ ap stepOf (sym (found-got s a b ends has-name (sym (crc-is s long h e) ∙ f ∙ sum-is)))
+          ap Next (size-is ∙ sym (size-of s ends has-name)) ∙ ap stepOf (sym (found-got s b ends has-name (sym (crc-is s long h e) ∙ f ∙ sum-is)))
 
 -- 36 bytes, as a part of them is lent and comes back as y: the part from `at` on
 abbrev tailed : ℕ → List ℕ → List ℕ → List ℕ

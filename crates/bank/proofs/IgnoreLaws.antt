@@ -8,10 +8,9 @@ use mathlib.Core.Bool.{Bool, true, false, cond}
 use native.Mathlib.Omega.{arith}
 use lib.Dec.{leb, eqb}
 use lib.ListN.{length, getD, set, take, drop, length-take, length-drop, length-set}
-use lib.Seq.{length-take-le, ext-getD, getD-take, getD-drop, getD-set-other}
+use lib.Seq.{ext-getD, getD-take, getD-drop, getD-set-other}
 use Rattle.crc32.specs.Crc32.{crc32Of}
 use Rattle.buffers.specs.Bytes.{allBlank, countFF}
-use Rattle.buffers.proofs.Laws.{all-blank-head}
 use Rattle.bank.specs.declared.header.StoreHeader.{StoreHeader}
 use Rattle.bank.specs.declared.header.Head.the-variants.{Good}
 use Rattle.bank.specs.declared.partition.Stop.{Stop}
@@ -22,7 +21,7 @@ use Rattle.bank.specs.Record.{Record, recordOf, sizeOf, nameAt, valueAt,
 use Rattle.bank.specs.Bank.{Bank, invalid, valid, bankOf}
 use Rattle.bank.specs.Read.{Item, got, halt, found, Walk, withFirst, walkFrom, usableAt, spoils, slotOf, afterHead, readBank}
 use Rattle.bank.specs.Totals.{total}
-use Rattle.bank.proofs.WalkLaws.{Stands, stands-size, found-got, walk-end, walk-got, walk-halt, walk-ind, walk-at}
+use Rattle.bank.proofs.WalkLaws.{not-blank, Stands, stands-found, stands-size, stands-name, walk-end, walk-got, walk-halt, walk-ind, walk-at}
 use Rattle.bank.proofs.ReadBank.{came, came-total}
 
 -- what is read of s and of t is the same where their bytes are
@@ -43,13 +42,6 @@ module _ (s t : List ℕ) where
         ext-getD 0 (take n (drop j t)) (take n (drop j s)) (simp (length-take, length-drop, long))
         (λ i h. let m : i < n = omega (arith, length-take n (drop j t)) in
         rw (getD-take n (drop j t) i 0 m, getD-take n (drop j s) i 0 m, getD-drop j t i 0, getD-drop j s i 0) (f (j + i) (omega arith) (omega arith)))
-
--- a start number's low byte, 0xAA, is neither 0 nor 0xFF
-not-blank : (s : List ℕ) → u16At s 0 ≡ 0x55AA → allBlank (take 36 s) ≡ false
-unfolding u16At
-not-blank s e =
-    let g : getD (take 36 s) 0 0 ≡ getD s 0 0 = getD-take 36 s 0 0 (omega arith) in
-    all-blank-head (take 36 s) (λ z. omega arith) (λ z. omega arith)
 
 -- the header of a bank, but for its reserved byte
 header-same : (s t : List ℕ) → length t ≡ length s → ((i : ℕ) → i < 24 → (i ≡ 15 → ⊥) → getD t i 0 ≡ getD s i 0)
@@ -169,17 +161,6 @@ module _ (at : ℕ) (r : Record) (rs : List Record) (i : ℕ) where
   ignored-behind l n (inl e) = omega arith
   ignored-behind l n (inr (inl e)) = omega arith
   ignored-behind l n (inr (inr k)) = n k
-
-stands-found : (s : List ℕ) (r : Record) → Stands s r → found s ≡ got r
-stands-found s r k = found-got s (not-blank s (k .starts)) (k .starts) (k .ends) (k .named) (k .summed) ∙ ap got (sym (k .is))
-
-stands-name : (s : List ℕ) (r : Record) → Stands s r → 36 + length (r .key) ≡ 35 + nameAt s
-unfolding recordOf
-stands-name s r k =
-    let n = k .named in
-    let e : length (r .key) ≡ nameAt s - 1 =
-    ap (λ (x : Record). length (x .key)) (k .is) ∙ length-take-le (nameAt s - 1) (drop 36 s) (omega (arith, k .ends, length-drop 36 s)) in
-    omega arith
 
 -- the walk again, over other bytes
 record Again (s t : List ℕ) (size at : ℕ) (w : Walk) : Type 0 where

@@ -36,7 +36,7 @@ fine-fields s k e n =
       value-bytes = bytes-take (valueAt s) (drop (36 + nameAt s) s) (bytes-drop (36 + nameAt s) s k);
     }
 
-fine-record : (s : List ℕ) (r : Record) → Bytes s → Stands s r → FineRecord r
+pub fine-record : (s : List ℕ) (r : Record) → Bytes s → Stands s r → FineRecord r
 fine-record s r k h = subst FineRecord (sym (h .is)) (fine-fields s k (h .ends) (h .named))
 
 pub take-add : (n m : ℕ) (l : List ℕ) → take (n + m) l ≡ take n l ++ take m (drop n l)
@@ -95,7 +95,7 @@ module _ (s : List ℕ) (n : ℕ) (is : n ≡ sizeAt s) where
   front-bytes : take (valueAt front) (drop (36 + nameAt front) front) ≡ take (valueAt s) (drop (36 + nameAt s) s)
   front-bytes = rw (front-name, front-value) (part-take (36 + nameAt s) (valueAt s) n s (omega arith))
 
-  front-record : (nameAt s ≡ 0 → ⊥) → recordOf front ≡ recordOf s
+  pub front-record : (nameAt s ≡ 0 → ⊥) → recordOf front ≡ recordOf s
   unfolding recordOf
   front-record d =
       let st : getD front 2 0 ≡ getD s 2 0 = getD-take n s 2 0 (omega arith) in
@@ -105,7 +105,7 @@ module _ (s : List ℕ) (n : ℕ) (is : n ≡ sizeAt s) where
       rw front-name (part-take 36 (nameAt s - 1) n s (omega arith)) in
       λ i. record { state = st i; attributes = at i; guid = gu i; key = ke i; value = front-bytes i }
 
-  front-whole : (r : Record) → Bytes s → Stands s r → Whole front
+  pub front-whole : (r : Record) → Bytes s → Stands s r → Whole front
   unfolding recordOf
   front-whole r k h =
       let e = h .ends in

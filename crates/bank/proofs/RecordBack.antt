@@ -2,13 +2,11 @@
 use Prim.Native.Nat.{ℕ, _+_, _-_, _≤_}
 use mathlib.Core.Path.{_≡_, refl, sym, ap, _∙_}
 use mathlib.Core.List.{List, _∷_, _++_, append-assoc}
-use mathlib.Core.Bool.{false}
 use native.Mathlib.Omega.{arith}
 use lib.ListN.{length, take, drop, length-append}
 use lib.Seq.{take-at, drop-drop}
 use Rattle.crc32.specs.Crc32.{crc32Of}
 use Rattle.crc32.proofs.Linear.{crc-lt}
-use Rattle.buffers.specs.Bytes.{allBlank}
 use Rattle.buffers.proofs.Laws.{past-drop}
 use Rattle.bank.specs.Number.{u16At, u32At, le32}
 use Rattle.bank.specs.Record.{Record, recordOf, sizeOf, nameAt, valueAt, sizeAt, varHeaderBytes, recordBytes}
@@ -85,10 +83,6 @@ module _ (r : Record) (rest : List ℕ) (f : FineRecord r) where
   unfolding sizeOf
   bytes-long = simp (length-append, length-le32) (omega (arith, f .guid-long))
 
-  not-blank : allBlank (take 36 bytes) ≡ false
-  unfolding allBlank
-  not-blank = refl
-
   starts : u16At bytes 0 ≡ 0x55AA
   unfolding u16At
   starts = refl
@@ -103,4 +97,4 @@ module _ (r : Record) (rest : List ℕ) (f : FineRecord r) where
   pub record-back : found (recordBytes r ++ rest) ≡ got r
   record-back =
       rw bytes-are
-      (found-got bytes not-blank starts size-back (λ z. omega (arith, at-name)) (at-sum ∙ ap crc32Of (sym value-back)) ∙ ap got fields-back)
+      (found-got bytes starts size-back (λ z. omega (arith, at-name)) (at-sum ∙ ap crc32Of (sym value-back)) ∙ ap got fields-back)

@@ -1,15 +1,17 @@
 -- What stands at an offset, by the cases of `found`; the reading loop's equations, and induction over a walk (`walk-ind`).
-use Prim.Native.Nat.{ℕ, zero, suc, _+_, _≤_, _<_}
-use mathlib.Core.Path.{_≡_, refl, ap, _∙_, subst}
+use Prim.Native.Nat.{ℕ, zero, suc, _+_, _-_, _≤_, _<_}
+use mathlib.Core.Path.{_≡_, refl, sym, ap, _∙_, subst}
 use mathlib.Core.List.{List}
 use mathlib.Core.Bool.{Bool, true, false, cond}
 use native.Mathlib.Nat.{not-suc-le-zero}
 use native.Mathlib.Omega.{arith}
 use lib.Dec.{ltb, leb, eqb}
-use lib.ListN.{length, take, drop, length-take, length-drop}
+use lib.ListN.{length, getD, take, drop, length-take, length-drop}
+use lib.Seq.{length-take-le, getD-take}
 use borrow.Author.Tests.{eq-eqb, ne-eqb, le-ltb, lt-ltb, le-leb, lt-leb, leb-true, ltb-true, ltb-false, eqb-true, eqb-false}
 use Rattle.crc32.specs.Crc32.{crc32Of}
 use Rattle.buffers.specs.Bytes.{allBlank}
+use Rattle.buffers.proofs.Laws.{all-blank-head}
 use Rattle.bank.specs.declared.partition.Stop.{Stop}
 use Rattle.bank.specs.declared.partition.Stop.the-variants.{Blank, Start, Length, End, Name, Crc}
 use Rattle.bank.specs.Number.{u16At, u32At}
@@ -30,29 +32,35 @@ module _ (s : List ℕ) where
   unfolding found
   found-blank a = simp a
 
-  module _ (a : allBlank (take 36 s) ≡ false) where
-    pub found-start : (u16At s 0 ≡ 0x55AA → ⊥) → found s ≡ halt Start
+  pub found-start : allBlank (take 36 s) ≡ false → (u16At s 0 ≡ 0x55AA → ⊥) → found s ≡ halt Start
+  unfolding found
+  found-start a b = simp (a, ne-eqb _ _ b)
+
+  module _ (b : u16At s 0 ≡ 0x55AA) where
+    -- a start number's low byte, 0xAA, is neither 0 nor 0xFF
+    pub not-blank : allBlank (take 36 s) ≡ false
+    unfolding u16At
+    not-blank =
+        let g : getD (take 36 s) 0 0 ≡ getD s 0 0 = getD-take 36 s 0 0 (omega arith) in
+        all-blank-head (take 36 s) (λ z. omega arith) (λ z. omega arith)
+
+    pub found-length : length s < sizeAt s → found s ≡ halt Length
     unfolding found
-    found-start b = simp (a, ne-eqb _ _ b)
+    found-length d = simp (not-blank, eq-eqb _ _ b, lt-leb _ _ d)
 
-    module _ (b : u16At s 0 ≡ 0x55AA) where
-      pub found-length : length s < sizeAt s → found s ≡ halt Length
+    module _ (d : sizeAt s ≤ length s) where
+      pub found-name : nameAt s ≡ 0 → found s ≡ halt Name
       unfolding found
-      found-length d = simp (a, eq-eqb _ _ b, lt-leb _ _ d)
+      found-name e = simp (not-blank, eq-eqb _ _ b, le-leb _ _ d, eq-eqb _ _ e)
 
-      module _ (d : sizeAt s ≤ length s) where
-        pub found-name : nameAt s ≡ 0 → found s ≡ halt Name
+      module _ (e : nameAt s ≡ 0 → ⊥) where
+        pub found-crc : (Summed → ⊥) → found s ≡ halt Crc
         unfolding found
-        found-name e = simp (a, eq-eqb _ _ b, le-leb _ _ d, eq-eqb _ _ e)
+        found-crc f = simp (not-blank, eq-eqb _ _ b, le-leb _ _ d, ne-eqb _ _ e, ne-eqb _ _ f)
 
-        module _ (e : nameAt s ≡ 0 → ⊥) where
-          pub found-crc : (Summed → ⊥) → found s ≡ halt Crc
-          unfolding found
-          found-crc f = simp (a, eq-eqb _ _ b, le-leb _ _ d, ne-eqb _ _ e, ne-eqb _ _ f)
-
-          pub found-got : Summed → found s ≡ got (recordOf s)
-          unfolding found
-          found-got f = simp (a, eq-eqb _ _ b, le-leb _ _ d, ne-eqb _ _ e, eq-eqb _ _ f)
+        pub found-got : Summed → found s ≡ got (recordOf s)
+        unfolding found
+        found-got f = simp (not-blank, eq-eqb _ _ b, le-leb _ _ d, ne-eqb _ _ e, eq-eqb _ _ f)
 
   pub size-of : sizeAt s ≤ length s → (nameAt s ≡ 0 → ⊥) → sizeOf (recordOf s) ≡ sizeAt s
   unfolding recordOf sizeOf
@@ -86,8 +94,19 @@ found-sound s =
 pub stands : (s : List ℕ) (r : Record) → found s ≡ got r → Stands s r
 stands s r e = subst (ItemStands s) e (found-sound s)
 
+pub stands-found : (s : List ℕ) (r : Record) → Stands s r → found s ≡ got r
+stands-found s r k = found-got s (k .starts) (k .ends) (k .named) (k .summed) ∙ ap got (sym (k .is))
+
 pub stands-size : (s : List ℕ) (r : Record) → Stands s r → sizeOf r ≡ sizeAt s
 stands-size s r k = ap sizeOf (k .is) ∙ size-of s (k .ends) (k .named)
+
+pub stands-name : (s : List ℕ) (r : Record) → Stands s r → 36 + length (r .key) ≡ 35 + nameAt s
+unfolding recordOf
+stands-name s r k =
+    let n = k .named in
+    let e : length (r .key) ≡ nameAt s - 1 =
+    ap (λ (x : Record). length (x .key)) (k .is) ∙ length-take-le (nameAt s - 1) (drop 36 s) (omega (arith, k .ends, length-drop 36 s)) in
+    omega arith
 
 pub size-pos : (r : Record) → 36 < sizeOf r
 unfolding sizeOf

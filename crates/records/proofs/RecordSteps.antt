@@ -18,7 +18,7 @@ use Rattle.bank.specs.Number.{u16At}
 use Rattle.bank.specs.Answer.{parsedHeader}
 use Rattle.bank.specs.Record.{Record, recordOf, sizeOf, nameAt, valueAt, sizeAt, varHeaderBytes, recordBytes, live, typeOf, deletedState}
 use Rattle.bank.specs.WellFormed.{FineRecord}
-use Rattle.bank.proofs.WalkLaws.{by-test, size-of}
+use Rattle.bank.proofs.WalkLaws.{by-test, stands-size}
 use Rattle.bank.proofs.FieldLaws.{header-long, name-is, value-is, crc-is}
 use Rattle.bank.proofs.RecordBack.{record-of-back}
 use Rattle.records.specs.declared.check.Next.{Next}
@@ -26,7 +26,7 @@ use Rattle.records.specs.declared.check.Next.the-variants.{Onward, Stop}
 use Rattle.records.specs.Match.{sameType, matches, deleted}
 use Rattle.records.specs.View.{isRecord, prepend, viewRecords}
 use Rattle.records.specs.Records.{nextAfter, deletedAt}
-use Rattle.records.proofs.RecordLaws.{Strict, strict, is-record, view-next, view-end}
+use Rattle.records.proofs.RecordLaws.{Strict, strict, is-record, is-long, view-next, view-end}
 
 -- what is lent from a place on
 abbrev pub lent : List ℕ → ℕ → List ℕ
@@ -77,7 +77,7 @@ module _ (s : List ℕ) (at : ℕ) where
         rw (i, j, tail s at, drop-drop (36 + nameAt (drop at s)) at s)
 
     pub next-beyond : length s < end → Stop ≡ nextAfter at s
-    next-beyond f = no-next (λ k. omega (arith, k .ends, name-size, data-size, room))
+    next-beyond f = no-next (λ k. omega (arith, k .stands .ends, name-size, data-size, room))
 
     pub next-open : (getD s (value - 1) 0 ≡ 0 → ⊥) → Stop ≡ nextAfter at s
     next-open f = no-next (λ k. f (closing-is ∙ k .closed))
@@ -87,20 +87,23 @@ module _ (s : List ℕ) (at : ℕ) where
       sum-is = summed ∙ ap crc32Of bytes-are
 
       pub next-spoilt : (h .crc ≡ sum → ⊥) → Stop ≡ nextAfter at s
-      next-spoilt f = no-next (λ k. f (crc-is x long h e ∙ k .summed ∙ sym sum-is))
+      next-spoilt f = no-next (λ k. f (crc-is x long h e ∙ k .stands .summed ∙ sym sum-is))
 
       pub next-end : u16At x 0 ≡ 0x55AA → getD x 3 0 ≡ 0 → 1 ≤ h .«name_size» → end ≤ length s → getD s (value - 1) 0 ≡ 0 → h .crc ≡ sum
           → Onward end ≡ nextAfter at s
       next-end starts reserved named ends closed f =
           next
           record {
-            long = long;
-            starts = starts;
+            stands =
+                record {
+                  is = refl;
+                  starts = starts;
+                  ends = omega (arith, name-size, data-size, room);
+                  named = λ z. omega (arith, name-size);
+                  summed = sym (crc-is x long h e) ∙ f ∙ sum-is;
+                };
             reserved = reserved;
-            named = omega (arith, name-size);
-            ends = omega (arith, name-size, data-size, room);
             closed = sym closing-is ∙ closed;
-            summed = sym (crc-is x long h e) ∙ f ∙ sum-is;
           }
           end
           (omega (arith, name-size, data-size))
@@ -108,7 +111,7 @@ module _ (s : List ℕ) (at : ℕ) where
 -- the size of a record, by the header that was read
 pub size-read : (s : List ℕ) → isRecord s ≡ true → (h : VarHeader) → h ≡ parsedHeader s → (n : ℕ) → n ≡ 36 + h .«name_size» + h .«data_size»
     → n ≡ sizeAt s
-size-read s t h e n size = let l = strict s t .long in omega (arith, name-is s l h e, value-is s l h e)
+size-read s t h e n size = let l = is-long s t in omega (arith, name-is s l h e, value-is s l h e)
 
 -- the records from a place on
 told-onward : (t : Bool) (n end : ℕ) → Onward end ≡ cond t (Onward n) Stop → (t ≡ true) × (n ≡ end)
@@ -138,12 +141,12 @@ module _ (s : List ℕ) (at : ℕ) where
     unfolding nextAfter
     view-onward end f =
         let o = told-onward (isRecord (drop at s)) (at + sizeAt (drop at s)) end (sym f ∙ e) in
-        let k = strict (drop at s) (o .0) in
-        let n : sizeOf (recordOf (drop at s)) ≡ sizeAt (drop at s) = size-of (drop at s) (k .ends) (λ z. omega (arith, k .named)) in
+        let k = strict (drop at s) (o .0) .stands in
+        let n : sizeOf (recordOf (drop at s)) ≡ sizeAt (drop at s) = stands-size (drop at s) (recordOf (drop at s)) k in
         record {
           more = omega (arith, o .1);
           within = omega (arith, o .1, k .ends, length-drop at s);
-          long = k .long;
+          long = is-long (drop at s) (o .0);
           size = omega (arith, o .1, n);
           is = view-turn h true (o .0) ∙ ap (λ (i : ℕ). prepend (recordOf (drop at s)) (viewRecords (drop i s))) (o .1);
         }

@@ -15,6 +15,7 @@ use Rattle.bank.specs.declared.variable.VarHeader.{VarHeader}
 use Rattle.bank.specs.Answer.{parsedHeader}
 use Rattle.bank.specs.Record.{Record, recordOf, sizeOf, nameAt, valueAt, sizeAt, recordBytes, recordsBytes}
 use Rattle.bank.specs.WellFormed.{FineRecord}
+use Rattle.bank.proofs.WalkLaws.{size-pos}
 use Rattle.bank.proofs.LengthLaws.{length-record, length-records}
 use Rattle.bank.proofs.FieldLaws.{name-is, value-is}
 use Rattle.bank.proofs.RecordBack.{record-of-back}
@@ -23,7 +24,7 @@ use Rattle.records.specs.declared.edit.Found.{Found}
 use Rattle.records.specs.Match.{matches, deleted, removed, foundIn}
 use Rattle.records.specs.View.{isRecord}
 use Rattle.records.specs.Records.{Holds, deletedAt, located}
-use Rattle.records.proofs.RecordLaws.{strict, record-strict, size-back, name-back, value-back}
+use Rattle.records.proofs.RecordLaws.{is-long, record-strict, size-back, name-back, value-back}
 use Rattle.records.proofs.RecordLists.{fine-deleted, size-deleted, fine-removed, sizes-removed}
 use Rattle.records.proofs.RecordSteps.{lent, size-read, deleted-at}
 
@@ -73,7 +74,7 @@ here w at to r rs h =
       size = n;
       name = ap nameAt e ∙ name-back r y f;
       value = ap valueAt e ∙ value-back r y f;
-      more = omega (arith, strict x t .named);
+      more = omega (arith, n, size-pos r);
       within = omega (arith, o, m);
       rest =
           record {
@@ -188,7 +189,7 @@ module _ (key : List ℕ) (typ : VarType) (w : List ℕ) (at to : ℕ) (o : Opti
   see-of (r ∷ rs) held goal l h e =
       let k = here w at to r rs held in
       let x = lent w at in
-      let long = strict x (k .test) .long in
+      let long = is-long x (k .test) in
       let a = name-is x long h e in
       let b = value-is x long h e in
       let same : matches key typ (recordOf x) ≡ matches key typ r = ap (matches key typ) (k .same) in

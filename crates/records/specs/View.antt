@@ -1,23 +1,20 @@
 -- Records as they would be written (01, 'Opening'), and the list of them that bytes are made of, if they are (01, refusal 6).
 use Prim.Native.Nat.{ℕ, zero, suc, _+_}
 use mathlib.Core.List.{List, [], _∷_}
-use mathlib.Core.Bool.{Bool, _&&_, cond}
+use mathlib.Core.Bool.{Bool, true, false, _&&_, cond}
 use mathlib.Core.Option.{Option, none, some}
-use lib.ListN.{length, getD, take, drop}
-use lib.Dec.{leb, eqb}
-use Rattle.crc32.specs.Crc32.{crc32Of}
-use Rattle.bank.specs.Number.{u16At, u32At}
-use Rattle.bank.specs.Record.{Record, recordOf, nameAt, valueAt, sizeAt}
+use lib.ListN.{length, getD, drop}
+use lib.Dec.{eqb}
+use Rattle.bank.specs.Record.{Record, recordOf, nameAt, sizeAt}
+use Rattle.bank.specs.Read.{Item, got, halt, found}
 
--- s begins with a record as it would be written: start number, reserved byte 0, a name, room, closing byte 0, the right CRC
+abbrev pub isGot : Item → Bool
+isGot (got r) = true
+isGot (halt c) = false
+
+-- s begins with a record as it would be written: reading takes it (01, 'Bank and record'), and its reserved and closing bytes are 0
 unfoldable pub isRecord : List ℕ → Bool
-isRecord s =
-    leb 36 (length s)
-    && (eqb (u16At s 0) 0x55AA
-    && (eqb (getD s 3 0) 0
-    && (leb 1 (nameAt s)
-    && (leb (sizeAt s) (length s)
-    && (eqb (getD s (35 + nameAt s) 0) 0 && eqb (u32At s 32) (crc32Of (take (valueAt s) (drop (36 + nameAt s) s))))))))
+isRecord s = isGot (found s) && (eqb (getD s 3 0) 0 && eqb (getD s (35 + nameAt s) 0) 0)
 
 unfoldable pub prepend : Record → Option (List Record) → Option (List Record)
 prepend r none = none

@@ -18,7 +18,7 @@ part-rest-end : tie.Need-part-rest-end
 part-rest-end c = search needs
 
 returns : tie.Need-returns
-returns c = let a = c .before .before .before .args in no-next (a .s .now) (a .at) (λ k. omega (arith, k .long))
+returns c = let a = c .before .before .before .args in no-next (a .s .now) (a .at) (λ k. omega (arith, k .stands .ends))
 
 shared-slice-read-u32-of : tie.Need-shared-slice-read-u32-of
 shared-slice-read-u32-of c = search needs
@@ -37,13 +37,13 @@ cast-if2 c = search needs
 
 returns-2 : tie.Need-returns-2
 unfolding u16At
-returns-2 c = let a = c .before .before .before .before .before .before .before .before .args in no-next (a .s .now) (a .at) (λ k. c .if2 .taken (omega (arith, k .starts, k .reserved, c .before .u32-of .ensures)))
+returns-2 c = let a = c .before .before .before .before .before .before .before .before .args in no-next (a .s .now) (a .at) (λ k. c .if2 .taken (omega (arith, k .stands .starts, k .reserved, c .before .u32-of .ensures)))
 
 parse-requires : tie.Need-parse-requires
 parse-requires c κs = search needs
 
 returns-3 : tie.Need-returns-3
-returns-3 c = let a = c .before .before .before .before .before .before .before .before .before .before .before .args in let h = c .before .before .parse in no-next (a .s .now) (a .at) (λ k. omega (arith, k .named, name-is _ (k .long) (h .result) (h .ensures)))
+returns-3 c = let a = c .before .before .before .before .before .before .before .before .before .before .before .args in let h = c .before .before .parse in no-next (a .s .now) (a .at) (λ k. omega (arith, k .stands .named, name-is _ (c .before .before .before .before .before .before .before .before .if1 .left) (h .result) (h .ensures)))
 
 size-requires : tie.Need-size-requires
 size-requires c κs = search needs

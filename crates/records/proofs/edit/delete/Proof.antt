@@ -9,7 +9,7 @@ use Rattle.bank.proofs.variable.VarHeader.parse.Reads as parse-reads
 use Rattle.bank.proofs.variable.Variable.deleted.Reads as deleted-reads
 use Rattle.bank.proofs.variable.Variable.size.Reads as size-reads
 use Rattle.records.specs.Records.{deletedAt}
-use Rattle.records.proofs.RecordLaws.{strict}
+use Rattle.records.proofs.RecordLaws.{is-long}
 use Rattle.records.proofs.RecordSteps.{size-read, delete-match, delete-other, length-deleted}
 use Rattle.records.proofs.edit.delete.Statement.{statement}
 use Rattle.records.proofs.edit.delete.Tie as tie
@@ -27,7 +27,7 @@ deleted-requires : tie.Need-deleted-requires
 deleted-requires c κs = search needs
 
 slice-write-s : tie.Need-slice-write-s
-slice-write-s c = omega (arith, strict (c .before .before .before .before .before .before .before .before .args .s .now) (c .before .before .before .before .before .before .before .before .pre) .long)
+slice-write-s c = omega (arith, is-long (c .before .before .before .before .before .before .before .before .args .s .now) (c .before .before .before .before .before .before .before .before .pre))
 
 size-requires : tie.Need-size-requires
 size-requires c κs = search needs
@@ -35,7 +35,7 @@ size-requires c κs = search needs
 left-is : (c : lts.After-size (parse-reads.Asked, parse-reads.Learnt, is-match-reads.Asked, is-match-reads.Learnt, deleted-reads.Asked, deleted-reads.Learnt, size-reads.Asked, size-reads.Learnt) reads.Pre reads.Post) → c .before .if1 .s ≡ deletedAt (c .before .before .before .before .before .before .before .before .args .key .now) (c .before .before .before .before .before .before .before .before .args .typ) (c .before .before .before .before .before .before .before .before .args .s .now)
 left-is c = let a = c .before .before .before .before .before .before .before .before .args in let s = a .s .now in let m = c .before .before .is-match .ensures in
     ⊎-elim
-    (λ w. w .2 ∙ delete-match (a .key .now) (a .typ) s (sym m ∙ w .0 .taken) (strict s (c .before .before .before .before .before .before .before .before .pre) .long) (c .before .before .before .before .parse .result) (c .before .before .before .before .parse .ensures) (w .1 .result) (w .1 .ensures))
+    (λ w. w .2 ∙ delete-match (a .key .now) (a .typ) s (sym m ∙ w .0 .taken) (is-long s (c .before .before .before .before .before .before .before .before .pre)) (c .before .before .before .before .parse .result) (c .before .before .before .before .parse .ensures) (w .1 .result) (w .1 .ensures))
     (λ w. w .1 ∙ delete-other (a .key .now) (a .typ) s (sym m ∙ w .0 .left))
     (c .before .if1 .came)
 

@@ -50,10 +50,10 @@ size-requires : tie.Need-size-requires
 size-requires c κs = search needs
 
 returns-3 : tie.Need-returns-3
-returns-3 c = step-length _ (cc) (omega arith) (omega arith) _ (c .before .before .parse .ensures) _ (c .before .size .ensures) (c .if3 .taken)
+returns-3 c = step-length _ (omega arith) (omega arith) _ (c .before .before .parse .ensures) _ (c .before .size .ensures) (c .if3 .taken)
 
 returns-4 : tie.Need-returns-4
-returns-4 c = step-name _ (cc) (omega arith) (omega arith) _ (c .before .before .before .before .parse .ensures) _ (c .before .before .before .size .ensures) (c .before .before .if3 .left) (c .if4 .taken)
+returns-4 c = step-name _ (omega arith) (omega arith) _ (c .before .before .before .before .parse .ensures) _ (c .before .before .before .size .ensures) (c .before .before .if3 .left) (c .if4 .taken)
 
 size-requires-2 : tie.Need-size-requires-2
 size-requires-2 c κs = search needs
@@ -72,13 +72,13 @@ crc32-with-requires c κs = search needs
 
 returns-5 : tie.Need-returns-5
 returns-5 c = let summed = c .before .before .crc32-with .ensures .1 (c .before .before .before .before .before .before .before .before .before .before .before .before .before .before .before .before .pre .1) in
-    step-crc _ (cc) (omega arith) (omega arith) _ (c .before .before .before .before .before .before .before .before .before .parse .ensures) _ (c .before .before .before .before .before .before .before .before .size .ensures)
+    step-crc _ (omega arith) (omega arith) _ (c .before .before .before .before .before .before .before .before .before .parse .ensures) _ (c .before .before .before .before .before .before .before .before .size .ensures)
     (c .before .before .before .before .before .before .before .if3 .left)
     (c .before .before .before .before .before .if4 .left) _ (c .before .before .before .before .size2 .ensures) _ summed (c .if5 .taken)
 
 returns-6 : tie.Need-returns-6
 returns-6 c = let summed = c .before .before .crc32-with .ensures .1 (c .before .before .before .before .before .before .before .before .before .before .before .before .before .before .before .before .pre .1) in
-    step-next _ (cc) (omega arith) (omega arith) _ (c .before .before .before .before .before .before .before .before .before .parse .ensures) _ (c .before .before .before .before .before .before .before .before .size .ensures)
+    step-next _ (omega arith) (omega arith) _ (c .before .before .before .before .before .before .before .before .before .parse .ensures) _ (c .before .before .before .before .before .before .before .before .size .ensures)
     (c .before .before .before .before .before .before .before .if3 .left)
     (c .before .before .before .before .before .if4 .left) _ (c .before .before .before .before .size2 .ensures) _ summed (c .if5 .left)
 
