@@ -11,6 +11,7 @@ use lib.ListN.{length, getD, set, take, drop, length-take, length-drop, length-s
 use lib.Seq.{ext-getD, getD-take, getD-drop, getD-set-other}
 use Rattle.crc32.specs.Crc32.{crc32Of}
 use Rattle.buffers.specs.Bytes.{allBlank, countFF}
+use Rattle.buffers.proofs.Laws.{clash}
 use Rattle.bank.specs.declared.header.StoreHeader.{StoreHeader}
 use Rattle.bank.specs.declared.header.Head.the-variants.{Good}
 use Rattle.bank.specs.declared.partition.Stop.{Stop}
@@ -230,7 +231,7 @@ module _ (s t : List ℕ) (long : length t ≡ length s) (size n : ℕ) (reach :
           }
 
 not-spoilt : (t : Bool) (a b : Bank) → cond t invalid (valid a) ≡ valid b → t ≡ false
-not-spoilt true a b e = let z : _≡_ {A = ℕ} 0 1 = cc in absurd (omega arith)
+not-spoilt true a b e = clash cc
 not-spoilt false a b e = refl
 
 -- a Valid bank is read from the bytes up to its size and its records' end alone, and from no reserved or closing byte among them

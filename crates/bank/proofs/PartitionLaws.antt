@@ -8,6 +8,7 @@ use native.Mathlib.Omega.{arith}
 use borrow.Author.Tests.{lt-leb, le-leb}
 use lib.ListN.{length, take, drop, length-drop}
 use Rattle.crc32.specs.Crc32.{Bytes}
+use Rattle.buffers.proofs.Laws.{clash}
 use Rattle.buffers.proofs.LoopSteps.{tail}
 use Rattle.bank.specs.declared.header.StoreHeader.{StoreHeader}
 use Rattle.bank.specs.declared.header.Head.{Head}
@@ -30,7 +31,7 @@ use Rattle.bank.proofs.ReadFine.{FineWalk, walk-fine}
 step-next : (o : Item) (n : ℕ) → Next n ≡ stepOf o → (r : Record) × (o ≡ got r) × (sizeOf r ≡ n)
 unfolding stepOf
 step-next (got r) n e = (r, refl, cc)
-step-next (halt c) n e = let z : _≡_ {A = ℕ} 0 1 = cc in absurd (omega arith)
+step-next (halt c) n e = clash cc
 
 step-halt : (o : Item) (c : Stop) → Halt c ≡ stepOf o → o ≡ halt c
 unfolding stepOf
@@ -109,7 +110,7 @@ module _ (s : List ℕ) (h : StoreHeader) (e : readHeader s ≡ Good h) (w : Wal
     pub blank-within : w .stop ≡ Blank → w .at + 36 < h .size
     blank-within b =
         let n : walkFrom s (h .size) 24 .stop ≡ Blank = sym stop-is ∙ b in
-        omega (arith, at-is, fine .inside (λ c. let z : _≡_ {A = ℕ} 0 1 = cc in omega arith))
+        omega (arith, at-is, fine .inside (λ c. clash cc))
 
 -- a slot by its head, where there is no bank to read
 module _ (s : List ℕ) where

@@ -9,7 +9,7 @@ use lib.ListN.{length, getD, take, drop, length-take}
 use borrow.Author.Tests.{leb-true}
 use Rattle.crc32.specs.Crc32.{Bytes}
 use Rattle.buffers.specs.Bytes.{allFF}
-use Rattle.buffers.proofs.Laws.{count-ff-le}
+use Rattle.buffers.proofs.Laws.{clash, count-ff-le}
 use Rattle.bank.specs.declared.header.StoreHeader.{StoreHeader}
 use Rattle.bank.specs.declared.header.Head.{Head}
 use Rattle.bank.specs.declared.header.Head.the-variants.{Signature, Version, Size, Good}
@@ -33,12 +33,12 @@ pub record Came (s : List ℕ) (b : Bank) : Type 0 where
   pub usable : usableAt (walkFrom s (b .header .size) 24 .stop) s (b .header .size) (walkFrom s (b .header .size) 24 .at) ≡ b .usable
 
 by-stop : (t : Bool) (a b : Bank) → cond t invalid (valid a) ≡ valid b → a ≡ b
-by-stop true a b e = let z : _≡_ {A = ℕ} 0 1 = cc in absurd (omega arith)
+by-stop true a b e = clash cc
 by-stop false a b e = cc
 
 not-valid : (t : Bool) (b : Bank) → cond t empty invalid ≡ valid b → ⊥
-not-valid true b e = let z : _≡_ {A = ℕ} 0 1 = cc in omega arith
-not-valid false b e = let z : _≡_ {A = ℕ} 0 1 = cc in omega arith
+not-valid true b e = clash cc
+not-valid false b e = clash cc
 
 pub came : (s : List ℕ) (b : Bank) → readBank s ≡ valid b → Came s b
 unfolding readBank afterHead erasedSlot slotOf
@@ -51,7 +51,7 @@ came s b e = go (readHeader s) refl e
     go : (o : Head) → readHeader s ≡ o → afterHead s o ≡ valid b → Came s b
     go Signature p q = absurd (not-valid (allFF s) b q)
     go Version p q = absurd (not-valid (allFF s) b q)
-    go Size p q = let z : _≡_ {A = ℕ} 0 1 = cc in absurd (omega arith)
+    go Size p q = clash cc
     go (Good h) p q = with h p (by-stop (spoils (walkFrom s (h .size) 24 .stop)) _ b q)
 
 pub came-total : (s : List ℕ) (b : Bank) → Came s b → total b ≡ walkFrom s (b .header .size) 24 .at
@@ -65,7 +65,7 @@ and-left false b e = e
 
 pub and-right : (a b : Bool) → (a && b) ≡ true → b ≡ true
 and-right true b e = e
-and-right false b e = let z : _≡_ {A = ℕ} 0 1 = cc in absurd (omega arith)
+and-right false b e = clash cc
 
 pub head-fine : (s : List ℕ) (h : StoreHeader) → Bytes s → readHeader s ≡ Good h → FineHeader h
 unfolding readHeader headerOf
@@ -87,20 +87,20 @@ head-fine s h k e = go (signed s) (eqb (getD s 14 0) 1) (leb 24 (u32At s 4) && l
         → cond a (cond b (cond c (Good (headerOf s)) Size) Version) Signature ≡ Good h
         → FineHeader h
     go true true true q p = let z : headerOf s ≡ h = cc in subst FineHeader z (fine q)
-    go true true false q p = let z : _≡_ {A = ℕ} 0 1 = cc in absurd (omega arith)
-    go true false c q p = let z : _≡_ {A = ℕ} 0 1 = cc in absurd (omega arith)
-    go false b c q p = let z : _≡_ {A = ℕ} 0 1 = cc in absurd (omega arith)
+    go true true false q p = clash cc
+    go true false c q p = clash cc
+    go false b c q p = clash cc
 
 -- usable lies within the records' end and the size
 pub usable-within : (s : List ℕ) (size at : ℕ) (c : Stop) → ((c ≡ End → ⊥) → at + 36 < size) → 24 ≤ at → 24 ≤ size
     → (24 ≤ usableAt c s size at) × (usableAt c s size at ≤ size)
 unfolding usableAt
 usable-within s size at Blank f l m =
-    let i : at + 36 < size = f (λ e. let z : _≡_ {A = ℕ} 0 1 = cc in omega arith) in
+    let i : at + 36 < size = f (λ e. clash cc) in
     let n = size - (at + 36) in
     (omega arith, omega (arith, count-ff-le (take n (drop (at + 36) s)), length-take n (drop (at + 36) s)))
-usable-within s size at Start f l m = let i : at + 36 < size = f (λ e. let z : _≡_ {A = ℕ} 0 1 = cc in omega arith) in (l, omega arith)
-usable-within s size at Length f l m = let i : at + 36 < size = f (λ e. let z : _≡_ {A = ℕ} 0 1 = cc in omega arith) in (l, omega arith)
+usable-within s size at Start f l m = let i : at + 36 < size = f (λ e. clash cc) in (l, omega arith)
+usable-within s size at Length f l m = let i : at + 36 < size = f (λ e. clash cc) in (l, omega arith)
 usable-within s size at End f l m = (m, omega arith)
 usable-within s size at Name f l m = (m, omega arith)
 usable-within s size at Crc f l m = (m, omega arith)

@@ -1,12 +1,11 @@
 -- What was read: an Empty bank is all 0xFF, and a generation is the number at bytes 8 to 11.
 use Prim.Native.Nat.{ℕ, _+_, _-_, _<_}
-use native.Mathlib.Omega.{arith}
 use mathlib.Core.Path.{_≡_, refl, ap}
 use mathlib.Core.Bool.{Bool, true, false, cond}
 use mathlib.Core.List.{List, _++_}
 use lib.ListN.{length}
 use Rattle.buffers.specs.Bytes.{allFF}
-use Rattle.buffers.proofs.Laws.{all-ff-is}
+use Rattle.buffers.proofs.Laws.{clash, all-ff-is}
 use Rattle.bank.specs.declared.header.StoreHeader.{StoreHeader}
 use Rattle.bank.specs.declared.header.Head.{Head}
 use Rattle.bank.specs.declared.header.Head.the-variants.{Good, Signature, Version, Size}
@@ -22,8 +21,8 @@ use Rattle.bank.proofs.PaddedLaws.{blanks}
 -- Empty
 
 not-empty : (t : Bool) (k : Bank) → cond t invalid (valid k) ≡ empty → ⊥
-not-empty true k e = let z : _≡_ {A = ℕ} 0 1 = cc in omega arith
-not-empty false k e = let z : _≡_ {A = ℕ} 0 1 = cc in omega arith
+not-empty true k e = clash cc
+not-empty false k e = clash cc
 
 erased-ff : (s : List ℕ) → erasedSlot s ≡ empty → s ≡ blanks (length s)
 unfolding erasedSlot
@@ -31,7 +30,7 @@ erased-ff s e = go (allFF s) refl e
   where
     go : (t : Bool) → allFF s ≡ t → cond t empty invalid ≡ empty → s ≡ blanks (length s)
     go true q _ = all-ff-is s q
-    go false _ q = let z : _≡_ {A = ℕ} 0 1 = cc in absurd (omega arith)
+    go false _ q = clash cc
 
 pub empty-ff : (s : List ℕ) → readBank s ≡ empty → s ≡ blanks (length s)
 unfolding readBank afterHead slotOf
@@ -41,7 +40,7 @@ empty-ff s e = go (readHeader s) e
     go (Good h) q = absurd (not-empty (spoils (walkFrom s (h .size) 24 .stop)) _ q)
     go Signature q = erased-ff s q
     go Version q = erased-ff s q
-    go Size q = let z : _≡_ {A = ℕ} 0 1 = cc in absurd (omega arith)
+    go Size q = clash cc
 
 -- generations
 

@@ -7,6 +7,7 @@ use native.Mathlib.Omega.{arith}
 use lib.Dec.{leb}
 use lib.ListN.{length, take, replicate}
 use borrow.Author.Tests.{lt-leb, le-leb, leb-true, leb-false}
+use Rattle.buffers.proofs.Laws.{clash}
 use Rattle.bank.specs.declared.partition.Partition.{Partition}
 use Rattle.bank.specs.declared.partition.Slot.{Slot}
 use Rattle.bank.specs.declared.partition.Slot.the-variants.{Short, Empty, Invalid, Valid}
@@ -21,8 +22,8 @@ use Rattle.bank.proofs.PartitionLaws.{bank-size}
 -- the answer, taken back
 valid-back : (k : bank.Slot) (p : Partition) → answer k ≡ Valid p → (b : Bank) × (k ≡ bank.valid b) × (partitionOf b ≡ p)
 unfolding answer
-valid-back bank.empty p e = let z : _≡_ {A = ℕ} 0 1 = cc in absurd (omega arith)
-valid-back bank.invalid p e = let z : _≡_ {A = ℕ} 0 1 = cc in absurd (omega arith)
+valid-back bank.empty p e = clash cc
+valid-back bank.invalid p e = clash cc
 valid-back (bank.valid b) p e = (b, refl, cc)
 
 empty-back : (k : bank.Slot) → answer k ≡ Empty → k ≡ bank.empty
@@ -39,9 +40,9 @@ invalid-back (bank.valid b) e = cc
 
 short-back : (k : bank.Slot) → answer k ≡ Short → ⊥
 unfolding answer
-short-back bank.empty e = let z : _≡_ {A = ℕ} 0 1 = cc in omega arith
-short-back bank.invalid e = let z : _≡_ {A = ℕ} 0 1 = cc in omega arith
-short-back (bank.valid b) e = let z : _≡_ {A = ℕ} 0 1 = cc in omega arith
+short-back bank.empty e = clash cc
+short-back bank.invalid e = clash cc
+short-back (bank.valid b) e = clash cc
 
 -- what was parsed, by the bytes' number
 parsed-by : (s : List ℕ) (P : Slot → Type 0) → (bankSize ≤ length s → P (answer (readBank (take bankSize s)))) → (length s < bankSize → P Short) → P (parsed s)
@@ -86,7 +87,7 @@ module _ (s out : List ℕ) where
 
     module _ (p : Partition) (v : x ≡ Valid p) where
       apart : x ≡ Short → ⊥
-      apart q = let z : _≡_ {A = ℕ} 0 1 = cc in omega arith
+      apart q = clash cc
 
       pub valid-long : 65536 ≤ length s
       valid-long = let l = long apart in omega (arith, bank-size)
@@ -105,11 +106,11 @@ module _ (s out : List ℕ) where
       pub part-empty : x ≡ Empty → u ≡ serializedPart s out
       unfolding partOf
       part-empty v =
-          let f : x ≡ Short → ⊥ = λ q. (let z : _≡_ {A = ℕ} 0 1 = cc in omega arith) in
+          let f : x ≡ Short → ⊥ = λ q. (clash cc) in
           w ∙ sym (ap (partOf (length out)) (empty-back (readBank (take bankSize s)) (read-is f bankSize bank-size ∙ v))) ∙ part-is f bankSize bank-size
 
       pub part-invalid : x ≡ Invalid → u ≡ serializedPart s out
       unfolding partOf
       part-invalid v =
-          let f : x ≡ Short → ⊥ = λ q. (let z : _≡_ {A = ℕ} 0 1 = cc in omega arith) in
+          let f : x ≡ Short → ⊥ = λ q. (clash cc) in
           w ∙ sym (ap (partOf (length out)) (invalid-back (readBank (take bankSize s)) (read-is f bankSize bank-size ∙ v))) ∙ part-is f bankSize bank-size

@@ -10,7 +10,7 @@ use lib.Seq.{take-at, drop-at, set-append-left, take-set-lt, length-take-le}
 use borrow.Author.Tests.{leb-true, eqb-true}
 use Rattle.crc32.specs.Crc32.{Bytes}
 use Rattle.buffers.specs.Bytes.{onto, eqBytes, over}
-use Rattle.buffers.proofs.Laws.{eq-bytes, onto-fits, length-onto, past-drop}
+use Rattle.buffers.proofs.Laws.{clash, eq-bytes, onto-fits, length-onto, past-drop}
 use Rattle.bank.specs.declared.header.StoreHeader.{StoreHeader}
 use Rattle.bank.specs.declared.header.Head.the-variants.{Good, Size, Version, Signature}
 use Rattle.bank.specs.Number.{u32At, le32}
@@ -41,10 +41,10 @@ headed s h e = go (leb 24 (length s)) (eqBytes (take 4 s) signature) (eqb (getD 
         → cond (a && b) (cond c (cond d (Good (headerOf s)) Size) Version) Signature ≡ Good h
         → Headed s h
     go true true true true p q r t = record { is = cc; long = leb-true _ _ p; signs = eq-bytes (take 4 s) signature q; version = eqb-true _ _ r }
-    go true true true false p q r t = let z : _≡_ {A = ℕ} 0 1 = cc in absurd (omega arith)
-    go true true false d p q r t = let z : _≡_ {A = ℕ} 0 1 = cc in absurd (omega arith)
-    go true false c d p q r t = let z : _≡_ {A = ℕ} 0 1 = cc in absurd (omega arith)
-    go false b c d p q r t = let z : _≡_ {A = ℕ} 0 1 = cc in absurd (omega arith)
+    go true true true false p q r t = clash cc
+    go true true false d p q r t = clash cc
+    go true false c d p q r t = clash cc
+    go false b c d p q r t = clash cc
 
 module _ (s : List ℕ) (h : StoreHeader) (k : Bytes s) (e : Headed s h) where
   -- the bytes before the reserved one, and those after it

@@ -10,6 +10,7 @@ use lib.ListN.{length, take, drop, length-take, length-drop}
 use borrow.Author.Tests.{ltb-false, leb-false}
 use Rattle.crc32.specs.Crc32.{Bytes}
 use Rattle.crc32.proofs.ByteLaws.{bytes-take, bytes-drop}
+use Rattle.buffers.proofs.Laws.{clash}
 use Rattle.bank.specs.Bank.{Slot, empty, invalid, valid, bankSize}
 use Rattle.bank.specs.Read.{readBank}
 use Rattle.bank.proofs.WalkLaws.{by-test}
@@ -64,7 +65,7 @@ book-fine image n k e low high =
     }
 
 never : (b : Book) (j : ℕ) → refused j ≡ opened b → FineBook b
-never b j e = let z : _≡_ {A = ℕ} 0 1 = cc in absurd (omega arith)
+never b j e = clash cc
 
 pub open-fine : (image : List ℕ) (work : ℕ) (b : Book) → Bytes image → opening image work ≡ opened b → FineBook b
 unfolding opening

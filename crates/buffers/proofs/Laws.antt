@@ -23,6 +23,10 @@ module _ (m n a : ℕ) (h : m ≤ n) where
   pub drop-replicate : drop m (replicate n a) ≡ replicate (n - m) a
   drop-replicate = ap (drop m) replicate-split ∙ drop-at (replicate m a) (replicate (n - m) a) m (length-replicate m a)
 
+-- constructors that differ are not equal: `cc` takes such an equation to 0 ≡ 1
+pub clash : {A : Type 0} → _≡_ {A = ℕ} 0 1 → A
+clash e = absurd (omega (arith, e))
+
 -- equality
 pub eq-bytes : (a b : List ℕ) → eqBytes a b ≡ true → a ≡ b
 unfolding eqBytes

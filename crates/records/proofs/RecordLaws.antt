@@ -10,7 +10,7 @@ use lib.Seq.{getD-at, drop-at, set-getD}
 use borrow.Author.Tests.{eq-eqb, eqb-true}
 use Rattle.crc32.specs.Crc32.{crc32Of, Bytes}
 use Rattle.crc32.proofs.ByteLaws.{bytes-drop}
-use Rattle.buffers.proofs.Laws.{and-both}
+use Rattle.buffers.proofs.Laws.{clash, and-both}
 use Rattle.bank.specs.Record.{Record, recordOf, sizeOf, nameAt, valueAt, sizeAt, varHeaderBytes, recordBytes, recordsBytes}
 use Rattle.bank.specs.Read.{Item, got, halt, found}
 use Rattle.bank.specs.WellFormed.{FineRecord, FineRecords}
@@ -29,7 +29,7 @@ pub record Strict (s : List ℕ) : Type 0 where
 
 taken : (s : List ℕ) (o : Item) → found s ≡ o → isGot o ≡ true → Stands s (recordOf s)
 taken s (got r) e t = let k = stands s r e in subst (Stands s) (k .is) k
-taken s (halt c) e t = let z : _≡_ {A = ℕ} 0 1 = cc in absurd (omega arith)
+taken s (halt c) e t = clash cc
 
 pub strict : (s : List ℕ) → isRecord s ≡ true → Strict s
 unfolding isRecord
@@ -148,8 +148,8 @@ one-back : (s : List ℕ) (rs : List Record) (t : Bool) (o : Option (List Record
     → cond t (prepend (recordOf s) o) none ≡ some rs
     → Back s rs
 unfolding recordsBytes prepend
-one-back s rs false o b p h e = let z : _≡_ {A = ℕ} 0 1 = cc in absurd (omega arith)
-one-back s rs true none b p h e = let z : _≡_ {A = ℕ} 0 1 = cc in absurd (omega arith)
+one-back s rs false o b p h e = clash cc
+one-back s rs true none b p h e = clash cc
 one-back s rs true (some qs) b p h e =
     let k = strict s p in
     let i = h qs refl in
@@ -159,7 +159,7 @@ one-back s rs true (some qs) b p h e =
 turns-back : (n : ℕ) (s : List ℕ) (rs : List Record) → Bytes s → viewTurns n s ≡ some rs → Back s rs
 unfolding viewTurns
 turns-back zero [] rs b e = none-back rs e
-turns-back zero (x ∷ s) rs b e = let z : _≡_ {A = ℕ} 0 1 = cc in absurd (omega arith)
+turns-back zero (x ∷ s) rs b e = clash cc
 turns-back (suc n) [] rs b e = none-back rs e
 turns-back (suc n) (x ∷ s) rs b e =
     let l = drop (sizeAt (x ∷ s)) (x ∷ s) in

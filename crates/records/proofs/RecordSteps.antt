@@ -11,6 +11,7 @@ use lib.Seq.{getD-drop, drop-drop}
 use borrow.Author.Tests.{eq-eqb, ne-eqb}
 use Rattle.crc32.specs.Crc32.{crc32Of}
 use Rattle.buffers.specs.Bytes.{eqBytes}
+use Rattle.buffers.proofs.Laws.{clash}
 use Rattle.buffers.proofs.LoopSteps.{tail}
 use Rattle.bank.specs.declared.variable.VarType.{VarType}
 use Rattle.bank.specs.declared.variable.VarHeader.{VarHeader}
@@ -116,10 +117,10 @@ size-read s t h e n size = let l = is-long s t in omega (arith, name-is s l h e,
 -- the records from a place on
 told-onward : (t : Bool) (n end : ℕ) → Onward end ≡ cond t (Onward n) Stop → (t ≡ true) × (n ≡ end)
 told-onward true n end e = (refl, cc)
-told-onward false n end e = let z : _≡_ {A = ℕ} 0 1 = cc in absurd (omega arith)
+told-onward false n end e = clash cc
 
 told-stop : (t : Bool) (n : ℕ) → Stop ≡ cond t (Onward n) Stop → t ≡ false
-told-stop true n e = let z : _≡_ {A = ℕ} 0 1 = cc in absurd (omega arith)
+told-stop true n e = clash cc
 told-stop false n e = refl
 
 -- past the record at a place, to its end

@@ -11,6 +11,7 @@ use lib.Dec.{ltb}
 use lib.ListN.{length, getD, take, drop}
 use lib.Seq.{drop-drop}
 use borrow.Author.Tests.{ltb-true, ltb-false, lt-ltb, le-ltb}
+use Rattle.buffers.proofs.Laws.{clash}
 use Rattle.bank.specs.Bank.{Bank, Slot, empty, invalid, valid, bankSize}
 use Rattle.bank.specs.Read.{readBank}
 use Rattle.bank.proofs.WalkLaws.{by-test}
@@ -26,10 +27,10 @@ slot-at (suc n) flash (suc i) h =
     (drop-drop (i * bankSize) bankSize flash ∙ ap (λ (k : ℕ). drop k flash) (add-comm bankSize (i * bankSize) ∙ sym (suc-mul i bankSize)))
 
 pub empty-not-valid : {k : Bank} → empty ≡ valid k → ⊥
-empty-not-valid e = let z : _≡_ {A = ℕ} 0 1 = cc in omega arith
+empty-not-valid e = clash cc
 
 invalid-not-valid : {k : Bank} → invalid ≡ valid k → ⊥
-invalid-not-valid e = let z : _≡_ {A = ℕ} 0 1 = cc in omega arith
+invalid-not-valid e = clash cc
 
 pub any-valid : (ss : List Slot) (i : ℕ) (k : Bank) → getD ss i invalid ≡ valid k → anyValid ss ≡ true
 unfolding anyValid

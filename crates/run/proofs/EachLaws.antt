@@ -1,13 +1,12 @@
 -- What holds of each page of a list, by its first page and the rest.
-use Prim.Native.Nat.{ℕ}
 use mathlib.Core.Path.{_≡_, refl, ap, subst}
 use mathlib.Core.List.{List, [], _∷_, _++_}
-use native.Mathlib.Omega.{arith}
+use Rattle.buffers.proofs.Laws.{clash}
 use Rattle.run.specs.Run.{Page, Each}
 
 pub each-none : (P : List Page → Page → Type 0) → Each [] P
-each-none P [] p later e = let z : _≡_ {A = ℕ} 0 1 = cc in absurd (omega arith)
-each-none P (q ∷ earlier) p later e = let z : _≡_ {A = ℕ} 0 1 = cc in absurd (omega arith)
+each-none P [] p later e = clash cc
+each-none P (q ∷ earlier) p later e = clash cc
 
 module _ (q : Page) (ps : List Page) (P : List Page → Page → Type 0) where
   pub each-first : Each (q ∷ ps) P → P [] q

@@ -4,7 +4,7 @@ use mathlib.Core.Path.{_≡_, refl, sym, ap, _∙_, subst}
 use mathlib.Core.Logic.{_≢_}
 use mathlib.Core.Option.{Option, none, some}
 use mathlib.Core.List.{List}
-use native.Mathlib.Omega.{arith}
+use Rattle.buffers.proofs.Laws.{clash}
 use Rattle.book.specs.Call.{Call, edit, lookup, fetch, commit, wholeImage, Answer, edited, looked, handed, committed, joined, erase, refusal, Outcome}
 use Rattle.book.specs.Book.{Book}
 use Rattle.book.specs.Tally.{Tally, counted, tallied}
@@ -57,7 +57,7 @@ pub no-commit : {a : Answer} {e : Option ℕ} {offset long : ℕ} → Idle a →
 no-commit i q = subst Idle q i
 
 pub no-request : (a : Answer) {offset : ℕ} → Idle a → erase a ≡ some offset → ⊥
-no-request a i q = let z : _≡_ {A = ℕ} 0 1 = cc (q, idle-quiet a i) in omega arith
+no-request a i q = clash (cc (q, idle-quiet a i))
 
 -- so the tally, which counts the requests of commits, counts all
 read-tally : (c : Call) (a : Answer) (t : Tally) → Reads c a → tallied c a t ≡ t

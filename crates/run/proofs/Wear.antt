@@ -6,6 +6,7 @@ use native.Mathlib.Nat.{div-add-mod', mul-le-mul-right, le-trans}
 use mathlib.Core.Path.{_≡_, refl, sym, ap, _∙_, subst}
 use mathlib.Core.Option.{some}
 use mathlib.Core.List.{List, [], _∷_, _++_}
+use Rattle.buffers.proofs.Laws.{clash}
 use Rattle.bank.specs.Record.{Record, sizes}
 use Rattle.bank.specs.Bank.{Bank, Slot, empty, invalid, valid, bankSize}
 use Rattle.bank.specs.Totals.{total, liveTotal}
@@ -146,7 +147,7 @@ asked : (b : Book) (c : Call) (o : Outcome) (k : ℕ) → Follows c (o .answer) 
 asked b c o k h q (refuses n x) = absurd (no-request (refusal c n) (idle-refusal c n (x .not-0)) q)
 asked b c o k h q (reads a x r) = absurd (no-request a (idle-read c a r) q)
 asked b c o k h q (edits e d) = absurd (no-request (edited 0) tt q)
-asked b c o k h q (writes room d) = let z : _≡_ {A = ℕ} 0 1 = cc in absurd (omega arith)
+asked b c o k h q (writes room d) = clash cc
 asked b c o k h q (moves room d l) =
     record { due = d; becomes = refl; live = rw (d .was); next = asked-slot (nextSlot b) (nextBank b) k q }
 asked b c o k h q (overflows room d l) = absurd (h refl)

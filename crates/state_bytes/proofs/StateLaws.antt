@@ -11,6 +11,7 @@ use lib.Seq.{drop-drop}
 use borrow.Author.Tests.{le-leb, leb-true}
 use Rattle.crc32.specs.Crc32.{Bytes}
 use Rattle.crc32.proofs.ByteLaws.{bytes-drop}
+use Rattle.buffers.proofs.Laws.{clash}
 use Rattle.bank.specs.Number.{u32At, le32}
 use Rattle.bank.proofs.NumberLaws.{u32-sum, u32-lt}
 use Rattle.bank.proofs.Normal.{u32-split}
@@ -135,8 +136,8 @@ read-is bs s e = go (leb stateSize (length bs)) (kindsKnown 16 (drop stateHead b
   where
     go : (a b : Bool) → leb stateSize (length bs) ≡ a → kindsKnown 16 (drop stateHead bs) ≡ b → cond (a && b) (some (stateAt bs)) none ≡ some s → Read bs s
     go true true p q e = record { room = leb-true _ _ p; known = q; is = cc }
-    go true false p q e = let z : _≡_ {A = ℕ} 0 1 = cc in absurd (omega arith)
-    go false b p q e = let z : _≡_ {A = ℕ} 0 1 = cc in absurd (omega arith)
+    go true false p q e = clash cc
+    go false b p q e = clash cc
 
 three-split : (bs : List ℕ) → Bytes bs → 12 ≤ length bs → three (u32At bs 0) (u32At bs 4) (u32At bs 8) ++ drop 12 bs ≡ bs
 unfolding le32
@@ -172,7 +173,7 @@ entries-split (suc n) bs k h e = go (leb (u32At bs 0) 2) refl (entries-split n (
         (ap (λ (i : ℕ). drop i bs) m ∙ sym (drop-drop (entrySize * n) entrySize bs))
         ∙ ap (λ (q : List ℕ). entryBytes (entryAt bs) ++ q) (f e)
         ∙ entry-split bs k (omega arith) (leb-true _ _ p)
-    go false p f e = let z : _≡_ {A = ℕ} 0 1 = cc in absurd (omega arith)
+    go false p f e = clash cc
 
 pub bytes-back : (bs : List ℕ) (s : Nvram) → Bytes bs → readState bs ≡ some s → stored s bs ≡ bs
 unfolding stored stateBytes stateAt

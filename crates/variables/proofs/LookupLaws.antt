@@ -9,7 +9,7 @@ use native.Mathlib.Omega.{arith}
 use lib.ListN.{length, take, drop, take-append-drop, length-append}
 use lib.Seq.{take-at, length-take-le}
 use Rattle.crc32.specs.Crc32.{Bytes, crc32Of}
-use Rattle.buffers.proofs.Laws.{past-drop}
+use Rattle.buffers.proofs.Laws.{clash, past-drop}
 use Rattle.bank.specs.declared.variable.VarType.{VarType}
 use Rattle.bank.specs.Record.{Record, sizeOf, varHeaderBytes, recordBytes, recordsBytes}
 use Rattle.bank.specs.WellFormed.{FineRecord, FineRecords}
@@ -83,12 +83,12 @@ found-stands key typ w from to rs h =
     (sym (take-append-drop (to - from) (drop from w)) ∙ ap (λ (x : List ℕ). x ++ drop (to - from) (drop from w)) (h .is)))
 
 located-at : (o : Option Found) (f : Found) → L.the-variants.At f ≡ located o → looked 0 (some f) ≡ looked 0 o
-located-at none f e = let z : _≡_ {A = ℕ} 0 1 = cc in absurd (omega arith)
+located-at none f e = clash cc
 located-at (some g) f e = let a : f ≡ g = cc in ap (λ (x : Found). looked 0 (some x)) a
 
 located-none : (o : Option Found) → L.the-variants.Nothing ≡ located o → looked 0 none ≡ looked 0 o
 located-none none e = refl
-located-none (some f) e = let z : _≡_ {A = ℕ} 0 1 = cc in absurd (omega arith)
+located-none (some f) e = clash cc
 
 module _ {s : Nvram} {w : List ℕ} {from to : ℕ} (k : Standing s w from to) (key : List ℕ) (typ : VarType) where
   abbrev g : Sound s w
