@@ -1,8 +1,8 @@
 -- A commit of the active bank, in the numbers that the code has: a law for each exit.
-use Prim.Native.Nat.{ℕ, _+_, _*_, _-_, _≤_, _<_}
+use Prim.Native.Nat.{ℕ, _+_, _*_, _≤_, _<_}
 use mathlib.Core.Path.{_≡_, refl, sym, ap, ap₂, _∙_, subst}
-use mathlib.Core.List.{List, [], _++_, append-assoc}
-use mathlib.Core.Bool.{Bool, true, false, true≢false}
+use mathlib.Core.List.{List, [], _++_}
+use mathlib.Core.Bool.{Bool, true}
 use mathlib.Core.Option.{Option, none, some}
 use native.Mathlib.Omega.{arith}
 use lib.Dec.{ltb}
@@ -10,19 +10,13 @@ use lib.ListN.{length, getD, take, drop, length-drop}
 use lib.Seq.{take-at, drop-at, length-take-le}
 use borrow.Author.Tests.{lt-ltb, le-ltb}
 use Rattle.crc32.specs.Crc32.{Bytes}
-use Rattle.buffers.proofs.LoopSteps.{tail}
 use Rattle.bank.specs.declared.header.StoreHeader.{StoreHeader}
-use Rattle.bank.specs.declared.header.Head.{Head}
-use Rattle.bank.specs.declared.header.Head.the-variants.{Good, Signature, Version, Size}
-use Rattle.bank.specs.Header.{readHeader, headerBytes}
 use Rattle.bank.specs.Bank.{Bank, Slot, invalid, valid, bankSize, partOf, output}
 use Rattle.bank.specs.Record.{sizes}
 use Rattle.bank.specs.Totals.{total}
-use Rattle.bank.proofs.HeaderLaws.{header-back}
 use Rattle.records.specs.declared.figures.Figures.{Figures}
-use Rattle.records.specs.declared.check.Checked.{Checked}
 use Rattle.records.specs.Figures.{figuresOf}
-use Rattle.records.specs.Checked.{checked, recordsFigures}
+use Rattle.records.specs.Checked.{recordsFigures}
 use Rattle.book.specs.Book.{partSize, Book, activeSlot}
 use Rattle.book.specs.Commit.{Judged, refuse, inPlace, move, judge, due, judgeBank}
 use Rattle.book.specs.Call.{commit, committed, stayWith, bySlot, commitAs, commitBank, commitTo, step}
@@ -30,28 +24,27 @@ use Rattle.book.proofs.JudgeLaws.{in-place-fits}
 use Rattle.nvram.specs.declared.state.Kind.the-variants.{Valid}
 use Rattle.nvram.specs.declared.state.Entry.{Entry}
 use Rattle.nvram.specs.declared.state.Nvram.{Nvram}
-use Rattle.nvram.specs.SlotFigures.{slotFigures, activeFigures}
+use Rattle.nvram.specs.declared.summary.Summary.{Summary}
+use Rattle.nvram.specs.declared.summary.Soundness.{Soundness}
+use Rattle.nvram.specs.Layout.{view}
+use Rattle.nvram.specs.Soundness.{slotSummary, activeSummary, soundness}
 use Rattle.nvram.specs.Ready.{activeEntry}
 use Rattle.nvram.specs.Contract.{Does}
-use Rattle.nvram.proofs.SlotLaws.{part-is}
 use Rattle.nvram.proofs.CallLaws.{does, by-7, by-valid}
 use Rattle.nvram.proofs.ActiveLaws.{Sound, book, viewed, state-is, work-is, fine, active-is, n-is, entry-is, does-refuse, bank, bank-is, bank-fine, total-is, usable-is}
 use Rattle.nvram.proofs.PlaceLaws.{after, part-here, bank-out}
 use Rattle.commit.specs.declared.Applied.{Applied}
 use Rattle.commit.specs.Applied.{applied}
-use Rattle.commit.specs.Active.{Active, MoveDue, Used, Commits}
+use Rattle.commit.specs.Active.{ActiveHas, Active, MoveDue, Used, Commits}
 
--- the figures that the check answers
-pub checked-used : (r : Checked) (o : Option Book) → r ≡ checked (activeFigures true) o → (b : Book) (k : Bank) → o ≡ some b
-    → activeSlot b ≡ valid k → r .used ≡ figuresOf (k .records)
-unfolding checked activeFigures slotFigures recordsFigures
-checked-used r o e b k p q = ap (λ (x : Checked). x .used) (e ∙ ap (checked (activeFigures true)) p) ∙ ap (slotFigures true) q
-
-abbrev pub faulty : Head → Bool
-faulty (Good h) = false
-faulty Signature = true
-faulty Version = true
-faulty Size = true
+-- what the check answers of the active bank
+pub checked-active : (s : Nvram) (w : List ℕ) (r : Soundness) → r ≡ soundness (activeSummary true) (view s w)
+    → ActiveHas s w (λ (k : Bank). (r .bank .header ≡ k .header) × (r .bank .used ≡ figuresOf (k .records)))
+unfolding soundness activeSummary slotSummary recordsFigures
+checked-active s w r e b k p q =
+    let x : r .bank ≡ slotSummary true (valid k) =
+    ap (λ (y : Soundness). y .bank) (e ∙ ap (soundness (activeSummary true)) p) ∙ ap (slotSummary true) q in
+    (ap (λ (y : Summary). y .header) x, ap (λ (y : Summary). y .used) x)
 
 -- the active part of a sound state whose active slot is Valid
 module _ {s : Nvram} {w : List ℕ} (g : Sound s w) (v : activeEntry s .kind ≡ Valid) where
@@ -63,17 +56,6 @@ module _ {s : Nvram} {w : List ℕ} (g : Sound s w) (v : activeEntry s .kind ≡
       part-here g (s .active) active-low
       ∙ ap (λ (x : Slot). partOf partSize x ++ after g (s .active) active-low)
       (ap (λ (i : ℕ). getD (book g .slots) i invalid) (active-is g) ∙ bank-is g v)
-
-  active-head : readHeader (drop (s .active * 131072) w) ≡ Good (bank g v .header)
-  active-head =
-      let f = bank-fine g v .0 in
-      ap readHeader (active-part ∙ ap (λ (l : List ℕ). l ++ after g (s .active) active-low) (part-is (bank g v) (f .records-fine)) ∙ append-assoc (headerBytes (bank g v .header)) _ _)
-      ∙ header-back (bank g v .header) _ (f .header-fine)
-
-  -- so the part does not begin with anything but a header
-  pub no-fault : (x : Head) → x ≡ readHeader (take (length w - s .active * 131072) (drop (s .active * 131072) w)) → faulty x ≡ true → ⊥
-  no-fault x e q =
-      let p : x ≡ Good (bank g v .header) = e ∙ ap readHeader (tail w (s .active * 131072)) ∙ active-head in true≢false (sym q ∙ ap faulty p)
 
 -- the refusals before that
 
@@ -108,7 +90,7 @@ module _ {s : Nvram} {w : List ℕ} {h : StoreHeader} (a : ActiveKnown s w h) wh
   here = bank sound (a .active .kind)
 
   pub header-is : h ≡ here .header
-  header-is = let e : Good h ≡ Good (here .header) = sym (a .active .head) ∙ active-head sound (a .active .kind) in cc
+  header-is = a .active .header b here (viewed sound) (bank-is sound (a .active .kind))
 
   pub size-is : h .size ≡ here .header .size
   size-is = ap (λ (x : StoreHeader). x .size) header-is

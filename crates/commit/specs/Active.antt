@@ -1,13 +1,11 @@
 -- A commit of the active bank: what it starts from, and what it answers and leaves.
-use Prim.Native.Nat.{ℕ, _*_}
+use Prim.Native.Nat.{ℕ}
 use mathlib.Core.Path.{_≡_}
 use mathlib.Core.List.{List}
 use mathlib.Core.Bool.{true}
 use mathlib.Core.Option.{some}
 use lib.ListN.{length, take, drop}
 use Rattle.bank.specs.declared.header.StoreHeader.{StoreHeader}
-use Rattle.bank.specs.declared.header.Head.the-variants.{Good}
-use Rattle.bank.specs.Header.{readHeader}
 use Rattle.bank.specs.Bank.{Bank, valid}
 use Rattle.records.specs.declared.figures.Figures.{Figures}
 use Rattle.records.specs.Checked.{isSome}
@@ -23,19 +21,23 @@ use Rattle.nvram.specs.Contract.{Does}
 use Rattle.commit.specs.declared.Applied.{Applied}
 use Rattle.commit.specs.Applied.{applied}
 
--- a sound state and work area whose active slot is Valid, its part beginning with the header h
+-- a property of the active bank
+abbrev pub ActiveHas : Nvram → List ℕ → (Bank → Type 0) → Type 0
+ActiveHas s w P = (b : Book) (k : Bank) → view s w ≡ some b → activeSlot b ≡ valid k → P k
+
+-- a sound state and work area whose active slot is Valid, with the header h
 pub record Active (s : Nvram) (w : List ℕ) (h : StoreHeader) : Type 0 where
   pub sound : isSome (view s w) ≡ true
   pub kind : activeEntry s .kind ≡ Valid
-  pub head : readHeader (drop (s .active * 131072) w) ≡ Good h
-
--- the active bank's commit is to move it
-abbrev pub MoveDue : Nvram → List ℕ → Type 0
-MoveDue s w = (b : Book) (k : Bank) → view s w ≡ some b → activeSlot b ≡ valid k → judgeBank k ≡ move
+  pub header : ActiveHas s w (λ (k : Bank). h ≡ k .header)
 
 -- what the active bank's live records come to, by section
 abbrev pub Used : Nvram → List ℕ → Figures → Type 0
-Used s w f = (b : Book) (k : Bank) → view s w ≡ some b → activeSlot b ≡ valid k → f ≡ figuresOf (k .records)
+Used s w f = ActiveHas s w (λ (k : Bank). f ≡ figuresOf (k .records))
+
+-- the active bank's commit is to move it
+abbrev pub MoveDue : Nvram → List ℕ → Type 0
+MoveDue s w = ActiveHas s w (λ (k : Bank). judgeBank k ≡ move)
 
 -- a commit of s and w with the output o answers r, and leaves the work area w′ and the output o′
 abbrev pub Commits : Nvram → List ℕ → List ℕ → Applied → List ℕ → List ℕ → Type 0

@@ -1,5 +1,4 @@
 // The commit: 01, 'A commit, from the entry down'.
-use bank::Head;
 use bank::Partition;
 use bank::StoreHeader;
 use bank::Variable;
@@ -172,7 +171,7 @@ fn move_on(
     write(after, work, output, header.size as usize, erase)
 }
 
-// A commit of the active bank, which is Valid and begins with this header.
+// A commit of the active bank, which is Valid, of this header and these sums.
 fn commit_active(
     state: Nvram,
     work: &mut [u8],
@@ -195,7 +194,7 @@ fn commit_active(
     }
 }
 
-// 6, 5, 7, then the active bank's own refusals. Of a Valid slot of a sound state the part begins with a header.
+// 6, 5, 7, then the active bank's own refusals.
 pub fn apply(state: Nvram, work: &mut [u8], output: &mut [u8]) -> Applied
     ensures { λ r. ⌜ Commits state (now (work .entry)) (now (output .entry)) r (now (work .exit)) (now (output .exit)) ⌝ }
 {
@@ -206,21 +205,15 @@ pub fn apply(state: Nvram, work: &mut [u8], output: &mut [u8]) -> Applied
     if output.len() < Partition::SIZE {
         return refused(state, 5, Erase::Nothing);
     }
-    let used = checked.used;
+    let bank = checked.bank;
+    let header = bank.header;
+    let used = bank.used;
     let i = state.active as usize;
     let entry = state.banks[i];
     let kind = entry.kind;
     match kind {
         Kind::Empty => refused(state, 7, Erase::Nothing),
         Kind::Invalid => refused(state, 7, Erase::Nothing),
-        Kind::Valid => {
-            let part = i * Nvram::PART_SIZE;
-            match StoreHeader::parse(&work[part..]) {
-                Head::Good(header) => commit_active(state, work, output, header, used),
-                Head::Signature => refused(state, 6, Erase::Nothing),
-                Head::Version => refused(state, 6, Erase::Nothing),
-                Head::Size => refused(state, 6, Erase::Nothing),
-            }
-        }
+        Kind::Valid => commit_active(state, work, output, header, used),
     }
 }

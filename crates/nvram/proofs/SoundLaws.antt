@@ -1,8 +1,8 @@
--- The check of one slot, a law for each exit, and the walk over the entries behind the last.
+-- What the check answers, by what it looks for; the check of one slot, a law for each exit; and the walk over the entries behind the last.
 use Prim.Native.Nat.{ℕ, _+_, _-_, _≤_, _<_}
 use mathlib.Core.Path.{_≡_, refl, sym, ap, _∙_}
 use mathlib.Core.List.{List}
-use mathlib.Core.Bool.{Bool, true, false, cond}
+use mathlib.Core.Bool.{Bool, true, false, cond, true≢false}
 use mathlib.Core.Option.{Option, none, some}
 use native.Mathlib.Numerals.{add-one}
 use lib.ListN.{length, getD, take, drop, drop-of-length-le}
@@ -16,17 +16,30 @@ use Rattle.bank.specs.declared.header.Head.the-variants.{Good}
 use Rattle.bank.specs.Header.{readHeader}
 use Rattle.bank.specs.Record.{Record}
 use Rattle.bank.specs.Bank.{Slot, empty, invalid}
-use Rattle.records.specs.declared.figures.Figures.{Figures}
+use Rattle.records.specs.declared.check.Checked.{Checked}
 use Rattle.records.specs.View.{viewRecords}
-use Rattle.records.specs.Figures.{noFigures}
-use Rattle.records.specs.Checked.{checked, recordsFigures}
+use Rattle.records.specs.Checked.{isSome, checked, recordsFigures}
+use Rattle.records.proofs.CheckedLaws.{checked-sound}
 use Rattle.book.specs.Book.{partSize}
 use Rattle.nvram.specs.declared.state.Kind.{Kind}
 use Rattle.nvram.specs.declared.state.Kind.the-variants.{Empty, Invalid, Valid}
 use Rattle.nvram.specs.declared.state.Entry.{Entry}
+use Rattle.nvram.specs.declared.summary.Summary.{Summary}
+use Rattle.nvram.specs.declared.summary.Soundness.{Soundness}
 use Rattle.nvram.specs.Part.{entry, slotWith, viewHead, isBlank, viewKind, viewSlot}
-use Rattle.nvram.specs.SlotFigures.{slotFigures}
+use Rattle.nvram.specs.Soundness.{noSummary, slotSummary, unsound, soundness}
 use Rattle.nvram.specs.Layout.{isFree, allFree}
+
+-- what it answers
+module _ {A : Type 0} (f : A → Summary) where
+  pub soundness-none : {o : Option A} → o ≡ none → unsound ≡ soundness f o
+  unfolding soundness
+  soundness-none e = ap (soundness f) (sym e)
+
+  pub soundness-sound : (r : Soundness) (o : Option A) → r ≡ soundness f o → r .sound ≡ isSome o
+  unfolding soundness
+  soundness-sound r none e = ap (λ (x : Soundness). x .sound) e
+  soundness-sound r (some y) e = ap (λ (x : Soundness). x .sound) e
 
 -- an entry and a part that hold nothing
 module _ (e : Entry) (p : List ℕ) where
@@ -78,18 +91,26 @@ module _ (h : StoreHeader) (e : Entry) (p : List ℕ) where
             unfolding viewHead partSize
             bank-records f = simp (eq-eqb _ _ r, le-leb _ _ a, le-leb _ _ b, le-leb _ _ c, le-leb _ _ d, f)
 
-pub checked-slot : (counting : Bool) (h : StoreHeader) (u : ℕ) (o : Option (List Record))
-    → checked (recordsFigures counting) o ≡ checked (slotFigures counting) (slotWith h u o)
-unfolding slotWith checked slotFigures
-checked-slot counting h u none = refl
-checked-slot counting h u (some rs) = refl
+-- a bank by the check of its records
+module _ (h : StoreHeader) (x : Checked) (counting : Bool) (u : ℕ) where
+  pub rows-unsound : (o : Option (List Record)) → x ≡ checked (recordsFigures counting) o → x .sound ≡ false
+      → unsound ≡ soundness (slotSummary counting) (slotWith h u o)
+  unfolding slotWith soundness
+  rows-unsound none e t = refl
+  rows-unsound (some rs) e t = absurd (true≢false (sym (checked-sound _ x (some rs) e) ∙ t))
+
+  pub rows-sound : (o : Option (List Record)) → x ≡ checked (recordsFigures counting) o → x .sound ≡ true
+      → record { sound = true; bank = record { header = h; used = x .used } } ≡ soundness (slotSummary counting) (slotWith h u o)
+  unfolding slotWith soundness slotSummary checked
+  rows-sound none e t = absurd (true≢false (sym t ∙ checked-sound (recordsFigures counting) x none e))
+  rows-sound (some rs) e t = ap (λ (y : Checked). record { sound = true; bank = record { header = h; used = y .used } }) e
 
 -- a slot by its kind
-checked-if : (t : Bool) (f : Slot → Figures) (s : Slot) → f s ≡ noFigures
-    → record { sound = t; used = noFigures } ≡ checked f (cond t (some s) none)
-unfolding checked
-checked-if true f s e = ap (λ (x : Figures). record { sound = true; used = x }) (sym e)
-checked-if false f s e = refl
+sound-if : (t : Bool) (f : Slot → Summary) (s : Slot) → f s ≡ noSummary
+    → record { sound = t; bank = noSummary } ≡ soundness f (cond t (some s) none)
+unfolding soundness
+sound-if true f s e = ap (λ (x : Summary). record { sound = true; bank = x }) (sym e)
+sound-if false f s e = refl
 
 module _ (e : Entry) (p : List ℕ) where
   by-kind : (k : Kind) → e .kind ≡ k → viewKind k e p ≡ viewSlot e p
@@ -97,13 +118,13 @@ module _ (e : Entry) (p : List ℕ) where
   by-kind k q = ap (λ (x : Kind). viewKind x e p) (sym q)
 
   module _ (counting : Bool) where
-    pub slot-empty : e .kind ≡ Empty → record { sound = isBlank e p; used = noFigures } ≡ checked (slotFigures counting) (viewSlot e p)
-    unfolding viewKind slotFigures
-    slot-empty q = checked-if (isBlank e p) (slotFigures counting) empty refl ∙ ap (checked (slotFigures counting)) (by-kind Empty q)
+    pub slot-empty : e .kind ≡ Empty → record { sound = isBlank e p; bank = noSummary } ≡ soundness (slotSummary counting) (viewSlot e p)
+    unfolding viewKind slotSummary
+    slot-empty q = sound-if (isBlank e p) (slotSummary counting) empty refl ∙ ap (soundness (slotSummary counting)) (by-kind Empty q)
 
-    pub slot-invalid : e .kind ≡ Invalid → record { sound = isBlank e p; used = noFigures } ≡ checked (slotFigures counting) (viewSlot e p)
-    unfolding viewKind slotFigures
-    slot-invalid q = checked-if (isBlank e p) (slotFigures counting) invalid refl ∙ ap (checked (slotFigures counting)) (by-kind Invalid q)
+    pub slot-invalid : e .kind ≡ Invalid → record { sound = isBlank e p; bank = noSummary } ≡ soundness (slotSummary counting) (viewSlot e p)
+    unfolding viewKind slotSummary
+    slot-invalid q = sound-if (isBlank e p) (slotSummary counting) invalid refl ∙ ap (soundness (slotSummary counting)) (by-kind Invalid q)
 
   pub slot-head : e .kind ≡ Valid → (o : Head) → o ≡ readHeader p → viewHead o e p ≡ viewSlot e p
   unfolding viewKind

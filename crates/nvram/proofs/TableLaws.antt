@@ -12,51 +12,53 @@ use lib.Seq.{drop-cons, drop-drop}
 use lib.Dec.{eqb}
 use borrow.Author.Tests.{eq-eqb, ne-eqb, le-leb, lt-leb, lt-ltb, le-ltb}
 use Rattle.bank.specs.Bank.{Slot}
-use Rattle.records.specs.declared.figures.Figures.{Figures}
-use Rattle.records.specs.declared.check.Checked.{Checked}
-use Rattle.records.specs.Figures.{noFigures}
-use Rattle.records.specs.Checked.{checked, unsound}
-use Rattle.records.proofs.CheckedLaws.{checked-same}
 use Rattle.book.specs.Book.{partSize}
 use Rattle.nvram.specs.declared.state.Kind.the-variants.{Empty}
 use Rattle.nvram.specs.declared.state.Entry.{Entry}
 use Rattle.nvram.specs.declared.state.Nvram.{Nvram}
+use Rattle.nvram.specs.declared.summary.Summary.{Summary}
+use Rattle.nvram.specs.declared.summary.Soundness.{Soundness}
 use Rattle.nvram.specs.Part.{entry, viewSlot}
 use Rattle.nvram.specs.Layout.{allFree, prependSlot, viewSlots, bookWith, inRange, view}
-use Rattle.nvram.specs.SlotFigures.{slotFigures, figuresAt, activeFigures}
+use Rattle.nvram.specs.Soundness.{noSummary, slotSummary, summaryAt, activeSummary, unsound, soundness}
 
 -- what the walk ends with when it comes with u to these slots, the first of them number i
-unfoldable pub figuresFrom : Bool → ℕ → ℕ → Figures → List Slot → Figures
-figuresFrom c a i u [] = u
-figuresFrom c a i u (s ∷ ss) = figuresFrom c a (i + 1) (cond (eqb i a) (slotFigures (c && eqb i a) s) u) ss
+unfoldable pub summaryFrom : Bool → ℕ → ℕ → Summary → List Slot → Summary
+summaryFrom c a i u [] = u
+summaryFrom c a i u (s ∷ ss) = summaryFrom c a (i + 1) (cond (eqb i a) (slotSummary (c && eqb i a) s) u) ss
 
-figures-past : (c : Bool) (a i : ℕ) (u : Figures) (ss : List Slot) → a < i → figuresFrom c a i u ss ≡ u
-unfolding figuresFrom
-figures-past c a i u [] h = refl
-figures-past c a i u (s ∷ ss) h = let n : eqb i a ≡ false = ne-eqb i a (λ e. omega arith) in rw n (figures-past c a (i + 1) u ss (omega arith))
+summary-past : (c : Bool) (a i : ℕ) (u : Summary) (ss : List Slot) → a < i → summaryFrom c a i u ss ≡ u
+unfolding summaryFrom
+summary-past c a i u [] h = refl
+summary-past c a i u (s ∷ ss) h = let n : eqb i a ≡ false = ne-eqb i a (λ e. omega arith) in rw n (summary-past c a (i + 1) u ss (omega arith))
 
-figures-ahead : (c : Bool) (a k i : ℕ) (ss : List Slot) → i + k ≡ a → figuresFrom c a i noFigures ss ≡ figuresAt c k ss
-unfolding figuresFrom figuresAt slotFigures
-figures-ahead c a k i [] h = refl
-figures-ahead c a zero i (s ∷ ss) h =
+summary-ahead : (c : Bool) (a k i : ℕ) (ss : List Slot) → i + k ≡ a → summaryFrom c a i noSummary ss ≡ summaryAt c k ss
+unfolding summaryFrom summaryAt slotSummary
+summary-ahead c a k i [] h = refl
+summary-ahead c a zero i (s ∷ ss) h =
     let e : eqb i a ≡ true = eq-eqb i a (omega arith) in
-    rw (e, and-true c) (figures-past c a (i + 1) (slotFigures c s) ss (omega arith))
-figures-ahead c a (suc k) i (s ∷ ss) h =
+    rw (e, and-true c) (summary-past c a (i + 1) (slotSummary c s) ss (omega arith))
+summary-ahead c a (suc k) i (s ∷ ss) h =
     let n : eqb i a ≡ false = ne-eqb i a (λ e. omega arith) in
-    rw n (figures-ahead c a k (i + 1) ss (omega arith))
+    rw n (summary-ahead c a k (i + 1) ss (omega arith))
+
+soundness-same : {A : Type 0} {f g : A → Summary} → ((x : A) → f x ≡ g x) → (o : Option A) → soundness f o ≡ soundness g o
+unfolding soundness
+soundness-same e none = refl
+soundness-same e (some x) = ap (λ (u : Summary). record { sound = true; bank = u }) (e x)
 
 -- one slot before others
-prepend-fails : (g : Slot → Figures) (f : List Slot → Figures) (o : Option Slot) (r : Option (List Slot))
-    → (checked g o) .sound ≡ false → checked f (prependSlot o r) ≡ unsound
-unfolding checked prependSlot
+prepend-fails : (g : Slot → Summary) (f : List Slot → Summary) (o : Option Slot) (r : Option (List Slot))
+    → (soundness g o) .sound ≡ false → soundness f (prependSlot o r) ≡ unsound
+unfolding soundness prependSlot
 prepend-fails g f none r n = refl
 prepend-fails g f (some s) r n = let z : _≡_ {A = ℕ} 0 1 = cc in absurd (omega arith)
 
-prepend-holds : (c : Bool) (a i : ℕ) (u : Figures) (o : Option Slot) (r : Option (List Slot))
-    → (checked (slotFigures (c && eqb i a)) o) .sound ≡ true
-    → checked (figuresFrom c a i u) (prependSlot o r)
-    ≡ checked (figuresFrom c a (i + 1) (cond (eqb i a) ((checked (slotFigures (c && eqb i a)) o) .used) u)) r
-unfolding checked prependSlot figuresFrom
+prepend-holds : (c : Bool) (a i : ℕ) (u : Summary) (o : Option Slot) (r : Option (List Slot))
+    → (soundness (slotSummary (c && eqb i a)) o) .sound ≡ true
+    → soundness (summaryFrom c a i u) (prependSlot o r)
+    ≡ soundness (summaryFrom c a (i + 1) (cond (eqb i a) ((soundness (slotSummary (c && eqb i a)) o) .bank) u)) r
+unfolding soundness prependSlot summaryFrom
 prepend-holds c a i u none r t = let z : _≡_ {A = ℕ} 0 1 = cc in absurd (omega arith)
 prepend-holds c a i u (some s) none t = refl
 prepend-holds c a i u (some s) (some ss) t = refl
@@ -92,49 +94,49 @@ module _ (n : ℕ) (es : List Entry) (w : List ℕ) where
 
   module _ (c : Bool) (a : ℕ) where
     -- what the walk answers when it comes with u to slot i
-    abbrev pub walkFrom : Figures → ℕ → Checked
-    walkFrom u i = checked (figuresFrom c a i u) (slotsFrom i)
+    abbrev pub walkFrom : Summary → ℕ → Soundness
+    walkFrom u i = soundness (summaryFrom c a i u) (slotsFrom i)
 
-    pub walk-start : (u : Figures) → u ≡ noFigures → checked (figuresAt c a) (viewSlots n es w) ≡ walkFrom u 0
+    pub walk-start : (u : Summary) → u ≡ noSummary → soundness (summaryAt c a) (viewSlots n es w) ≡ walkFrom u 0
     walk-start u e =
-        (λ j. checked (figuresAt c a) (viewSlots (sym (sub-zero n) j) es (drop (sym (zero-mul partSize) j) w)))
-        ∙ sym (checked-same (λ ss. figures-ahead c a a 0 ss (omega arith)) (slotsFrom 0))
-        ∙ ap (λ (v : Figures). walkFrom v 0) (sym e)
+        (λ j. soundness (summaryAt c a) (viewSlots (sym (sub-zero n) j) es (drop (sym (zero-mul partSize) j) w)))
+        ∙ sym (soundness-same (λ ss. summary-ahead c a a 0 ss (omega arith)) (slotsFrom 0))
+        ∙ ap (λ (v : Summary). walkFrom v 0) (sym e)
 
-    module _ (u : Figures) (i : ℕ) where
-      module _ (h : i < n) (l : i < length es) (x : Checked) (e : x ≡ checked (slotFigures (c && eqb i a)) (slotAt i)) where
-        sound-here : (checked (slotFigures (c && eqb i a)) (slotAt i)) .sound ≡ x .sound
-        sound-here = ap (λ (y : Checked). y .sound) (sym e)
+    module _ (u : Summary) (i : ℕ) where
+      module _ (h : i < n) (l : i < length es) (x : Soundness) (e : x ≡ soundness (slotSummary (c && eqb i a)) (slotAt i)) where
+        sound-here : (soundness (slotSummary (c && eqb i a)) (slotAt i)) .sound ≡ x .sound
+        sound-here = ap (λ (y : Soundness). y .sound) (sym e)
 
         pub walk-fails : x .sound ≡ false → walkFrom u i ≡ unsound
         walk-fails q =
-            ap (checked (figuresFrom c a i u)) (slots-more i h l)
-            ∙ prepend-fails (slotFigures (c && eqb i a)) (figuresFrom c a i u) (slotAt i) (slotsFrom (i + 1)) (sound-here ∙ q)
+            ap (soundness (summaryFrom c a i u)) (slots-more i h l)
+            ∙ prepend-fails (slotSummary (c && eqb i a)) (summaryFrom c a i u) (slotAt i) (slotsFrom (i + 1)) (sound-here ∙ q)
 
-        pub walk-holds : x .sound ≡ true → (v : Figures) → v ≡ cond (eqb i a) (x .used) u → walkFrom u i ≡ walkFrom v (i + 1)
+        pub walk-holds : x .sound ≡ true → (v : Summary) → v ≡ cond (eqb i a) (x .bank) u → walkFrom u i ≡ walkFrom v (i + 1)
         walk-holds q v d =
-            ap (checked (figuresFrom c a i u)) (slots-more i h l)
+            ap (soundness (summaryFrom c a i u)) (slots-more i h l)
             ∙ prepend-holds c a i u (slotAt i) (slotsFrom (i + 1)) (sound-here ∙ q)
-            ∙ ap (λ (y : Checked). walkFrom (cond (eqb i a) (y .used) u) (i + 1)) (sym e)
-            ∙ ap (λ (y : Figures). walkFrom y (i + 1)) (sym d)
+            ∙ ap (λ (y : Soundness). walkFrom (cond (eqb i a) (y .bank) u) (i + 1)) (sym e)
+            ∙ ap (λ (y : Summary). walkFrom y (i + 1)) (sym d)
 
       module _ (e : n ≡ i) where
-        walk-last : walkFrom u i ≡ checked (figuresFrom c a i u) (cond (allFree (drop n es)) (some []) none)
-        walk-last = ap (λ (j : ℕ). checked (figuresFrom c a i u) (slotsFrom j)) (sym e) ∙ ap (checked (figuresFrom c a i u)) slots-none
+        walk-last : walkFrom u i ≡ soundness (summaryFrom c a i u) (cond (allFree (drop n es)) (some []) none)
+        walk-last = ap (λ (j : ℕ). soundness (summaryFrom c a i u) (slotsFrom j)) (sym e) ∙ ap (soundness (summaryFrom c a i u)) slots-none
 
         pub walk-unfree : allFree (drop n es) ≡ false → walkFrom u i ≡ unsound
-        unfolding checked
+        unfolding soundness
         walk-unfree q = walk-last ∙ rw q refl
 
-        pub walk-free : allFree (drop n es) ≡ true → walkFrom u i ≡ record { sound = true; used = u }
-        unfolding checked figuresFrom
+        pub walk-free : allFree (drop n es) ≡ true → walkFrom u i ≡ record { sound = true; bank = u }
+        unfolding soundness summaryFrom
         walk-free q = walk-last ∙ rw q refl
 
 -- the whole
-checked-book : (c : Bool) (s : Nvram) (o : Option (List Slot)) → checked (figuresAt c (s .active)) o ≡ checked (activeFigures c) (bookWith s o)
-unfolding checked figuresAt activeFigures bookWith
-checked-book c s none = refl
-checked-book c s (some ss) = refl
+sound-book : (c : Bool) (s : Nvram) (o : Option (List Slot)) → soundness (summaryAt c (s .active)) o ≡ soundness (activeSummary c) (bookWith s o)
+unfolding soundness summaryAt activeSummary bookWith
+sound-book c s none = refl
+sound-book c s (some ss) = refl
 
 module _ (s : Nvram) (w : List ℕ) where
   pub view-low : s .n < 1 → view s w ≡ none
@@ -156,6 +158,6 @@ module _ (s : Nvram) (w : List ℕ) where
         unfolding view inRange partSize
         view-short d = simp (le-leb _ _ a, le-leb _ _ b, lt-ltb _ _ c, lt-leb _ _ d)
 
-        pub view-slots : s .n * 131072 ≤ length w → (t : Bool) → checked (figuresAt t (s .active)) (viewSlots (s .n) (s .banks) w) ≡ checked (activeFigures t) (view s w)
+        pub view-slots : s .n * 131072 ≤ length w → (t : Bool) → soundness (summaryAt t (s .active)) (viewSlots (s .n) (s .banks) w) ≡ soundness (activeSummary t) (view s w)
         unfolding view inRange partSize
-        view-slots d t = simp (le-leb _ _ a, le-leb _ _ b, lt-ltb _ _ c, le-leb _ _ d) (checked-book t s (viewSlots (s .n) (s .banks) w))
+        view-slots d t = simp (le-leb _ _ a, le-leb _ _ b, lt-ltb _ _ c, le-leb _ _ d) (sound-book t s (viewSlots (s .n) (s .banks) w))

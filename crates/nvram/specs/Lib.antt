@@ -1,5 +1,5 @@
 pub mod Part
 pub mod Layout
-pub mod SlotFigures
+pub mod Soundness
 pub mod Ready
 pub mod Contract

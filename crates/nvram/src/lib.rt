@@ -2,6 +2,7 @@
 mod ready;
 mod sound;
 mod state;
+mod summary;
 
 pub use ready::Ready;
 pub use sound::check;
@@ -11,3 +12,5 @@ pub use state::Kind;
 pub use state::Nvram;
 pub use state::Tally;
 pub use state::no_banks;
+pub use summary::Soundness;
+pub use summary::Summary;

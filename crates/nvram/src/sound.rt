@@ -1,23 +1,26 @@
-// Refusal 6: whether a state and a work area are those of some book. The check counts the active bank's live records as it passes them, for
-// a commit, which would else walk them again.
+// Refusal 6: whether a state and a work area are those of some book. The check hands on the active bank's header and counts its live records
+// as it passes them, for a commit, which would else read them again.
 use super::state::Entry;
 use super::state::Kind;
 use super::state::Nvram;
+use super::summary::Soundness;
+use super::summary::Summary;
 use bank::Head;
 use bank::StoreHeader;
 use bank::Variable;
 use records::Checked;
-use records::Figures;
 use records::check_records;
 ghost use mathlib.Core.Path.{_≡_};
-ghost use mathlib.Core.Bool.{true};
-ghost use Prim.Native.Nat.{_*_, _≤_};
+ghost use mathlib.Core.Bool.{Bool, true};
+ghost use mathlib.Core.List.{List};
+ghost use mathlib.Core.Option.{Option};
+ghost use Prim.Native.Nat.{ℕ, _*_, _≤_};
 ghost use lib.ListN.{length, drop};
 ghost use Rattle.crc32.specs.Table.{IsTables};
-ghost use Rattle.records.specs.Checked.{isSome, checked};
-ghost use Rattle.records.specs.Figures.{noFigures};
-ghost use Rattle.nvram.specs.Part.{isBlank, viewHead, viewSlot};
-ghost use Rattle.nvram.specs.SlotFigures.{slotFigures, figuresAt, activeFigures};
+ghost use Rattle.bank.specs.Record.{Record};
+ghost use Rattle.records.specs.Checked.{isSome, checked, recordsFigures};
+ghost use Rattle.nvram.specs.Part.{slotWith, isBlank, viewHead, viewSlot};
+ghost use Rattle.nvram.specs.Soundness.{noSummary, slotSummary, summaryAt, activeSummary, soundness};
 ghost use Rattle.nvram.specs.Layout.{isEmpty, isFree, allFree, viewSlots, view};
 
 fn is_empty(kind: Kind) -> bool
@@ -75,12 +78,26 @@ fn is_blank(entry: Entry, part: &[u8]) -> bool
 }
 
 // The check of a slot that is not Valid.
-fn check_blank(entry: Entry, part: &[u8]) -> Checked
-    ensures { λ r. ⌜ r ≡ record { sound = isBlank entry (now (part .entry)); used = noFigures } ⌝ }
+fn check_blank(entry: Entry, part: &[u8]) -> Soundness
+    ensures { λ r. ⌜ r ≡ record { sound = isBlank entry (now (part .entry)); bank = noSummary } ⌝ }
 {
-    Checked {
+    Soundness {
         sound: is_blank(entry, part),
-        used: Figures::none(),
+        bank: Summary::none(),
+    }
+}
+
+// Of a bank, by its header and the check of its records.
+fn with_header(header: StoreHeader, rows: Checked) -> Soundness
+    ensures { λ r. ⌜ ((counting : Bool) (u : ℕ) (o : Option (List Record)) → rows ≡ checked (recordsFigures counting) o → r ≡ soundness (slotSummary counting) (slotWith header u o)) ⌝ }
+{
+    if !rows.sound {
+        return Soundness::unsound();
+    }
+    let used = rows.used;
+    Soundness {
+        sound: true,
+        bank: Summary { header, used },
     }
 }
 
@@ -91,37 +108,38 @@ fn check_bank(
     entry: Entry,
     part: &[u8],
     counting: bool,
-) -> Checked
+) -> Soundness
     requires { ⌜ (length (now part) ≡ 131072) × IsTables 16 (now t) ⌝ }
-    ensures { λ r. ⌜ r ≡ checked (slotFigures counting) (viewHead (Head.Good header) entry (now (part .entry))) ⌝ }
+    ensures { λ r. ⌜ r ≡ soundness (slotSummary counting) (viewHead (Head.Good header) entry (now (part .entry))) ⌝ }
 {
     let total = entry.total as usize;
     let usable = entry.usable as usize;
     if part[15] != 0 {
-        return Checked::unsound();
+        return Soundness::unsound();
     }
     if total < Variable::STORE_HEADER_SIZE {
-        return Checked::unsound();
+        return Soundness::unsound();
     }
     if Nvram::PART_SIZE < total {
-        return Checked::unsound();
+        return Soundness::unsound();
     }
     if usable < Variable::STORE_HEADER_SIZE {
-        return Checked::unsound();
+        return Soundness::unsound();
     }
     if (header.size as usize) < usable {
-        return Checked::unsound();
+        return Soundness::unsound();
     }
     if !buffers::all_ff(&part[total..]) {
-        return Checked::unsound();
+        return Soundness::unsound();
     }
-    check_records(t, &part[Variable::STORE_HEADER_SIZE..total], counting)
+    let rows = check_records(t, &part[Variable::STORE_HEADER_SIZE..total], counting);
+    with_header(header, rows)
 }
 
 // Of an entry and its part.
-fn check_slot(t: &[u32; 4096], entry: Entry, part: &[u8], counting: bool) -> Checked
+fn check_slot(t: &[u32; 4096], entry: Entry, part: &[u8], counting: bool) -> Soundness
     requires { ⌜ (length (now part) ≡ 131072) × IsTables 16 (now t) ⌝ }
-    ensures { λ r. ⌜ r ≡ checked (slotFigures counting) (viewSlot entry (now (part .entry))) ⌝ }
+    ensures { λ r. ⌜ r ≡ soundness (slotSummary counting) (viewSlot entry (now (part .entry))) ⌝ }
 {
     let kind = entry.kind;
     match kind {
@@ -129,23 +147,23 @@ fn check_slot(t: &[u32; 4096], entry: Entry, part: &[u8], counting: bool) -> Che
         Kind::Invalid => check_blank(entry, part),
         Kind::Valid => match StoreHeader::parse(part) {
             Head::Good(header) => check_bank(t, header, entry, part, counting),
-            Head::Signature => Checked::unsound(),
-            Head::Version => Checked::unsound(),
-            Head::Size => Checked::unsound(),
+            Head::Signature => Soundness::unsound(),
+            Head::Version => Soundness::unsound(),
+            Head::Size => Soundness::unsound(),
         },
     }
 }
 
 // Of the first n entries and their parts, and of the others, which are to be free. It counts in the active bank alone.
-fn check_slots(state: Nvram, work: &[u8], counting: bool) -> Checked
+fn check_slots(state: Nvram, work: &[u8], counting: bool) -> Soundness
     requires { ⌜ (state .n ≤ 16) × (state .n * 131072 ≤ length (now work)) ⌝ }
-    ensures { λ r. ⌜ r ≡ checked (figuresAt counting (state .active)) (viewSlots (state .n) (state .banks) (now (work .entry))) ⌝ }
+    ensures { λ r. ⌜ r ≡ soundness (summaryAt counting (state .active)) (viewSlots (state .n) (state .banks) (now (work .entry))) ⌝ }
 {
     let t = crc32::tables();
     let banks = state.banks;
     let n = state.n as usize;
     let active = state.active as usize;
-    let mut used = Figures::none();
+    let mut bank = Summary::none();
     let mut i: usize = 0;
     while i < n {
         let entry = banks[i];
@@ -153,40 +171,40 @@ fn check_slots(state: Nvram, work: &[u8], counting: bool) -> Checked
         let e = a + Nvram::PART_SIZE;
         let here = check_slot(&t, entry, &work[a..e], counting & (i == active));
         if !here.sound {
-            return Checked::unsound();
+            return Soundness::unsound();
         }
-        used = here.used.or_else(i == active, used);
+        bank = here.bank.or_else(i == active, bank);
         i += 1;
     }
     if !rest_free(state) {
-        return Checked::unsound();
+        return Soundness::unsound();
     }
-    Checked { sound: true, used }
+    Soundness { sound: true, bank }
 }
 
 // Of the whole.
-fn check_all(state: Nvram, work: &[u8], counting: bool) -> Checked
-    ensures { λ r. ⌜ r ≡ checked (activeFigures counting) (view state (now (work .entry))) ⌝ }
+fn check_all(state: Nvram, work: &[u8], counting: bool) -> Soundness
+    ensures { λ r. ⌜ r ≡ soundness (activeSummary counting) (view state (now (work .entry))) ⌝ }
 {
     let n = state.n as usize;
     if n < 1 {
-        return Checked::unsound();
+        return Soundness::unsound();
     }
     if 16 < n {
-        return Checked::unsound();
+        return Soundness::unsound();
     }
     if state.n <= state.active {
-        return Checked::unsound();
+        return Soundness::unsound();
     }
     if work.len() < n * Nvram::PART_SIZE {
-        return Checked::unsound();
+        return Soundness::unsound();
     }
     check_slots(state, work, counting)
 }
 
-// Whether state and work area are sound, and what the active bank's live records come to.
-pub fn check(state: Nvram, work: &[u8]) -> Checked
-    ensures { λ r. ⌜ r ≡ checked (activeFigures true) (view state (now (work .entry))) ⌝ }
+// Whether state and work area are sound, and the active bank's summary.
+pub fn check(state: Nvram, work: &[u8]) -> Soundness
+    ensures { λ r. ⌜ r ≡ soundness (activeSummary true) (view state (now (work .entry))) ⌝ }
 {
     check_all(state, work, true)
 }

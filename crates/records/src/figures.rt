@@ -48,11 +48,4 @@ impl Figures {
             common: self.common + count_if(buffers::same(guid, &common), n),
         }
     }
-
-    // These where the test holds, else others.
-    pub fn or_else(self, test: bool, others: Figures) -> Figures
-        ensures { λ r. ⌜ r ≡ cond test self others ⌝ }
-    {
-        if test { self } else { others }
-    }
 }

@@ -8,10 +8,8 @@ use borrow.Author.Tests.{not-true, not-false}
 use borrow.Author.Needs.{needs}
 use Rattle.buffers.specs.Bytes.{allFF}
 use Rattle.buffers.proofs.LoopSteps.{tail}
-use Rattle.records.specs.Checked.{checked}
-use Rattle.records.proofs.CheckedLaws.{checked-none}
-use Rattle.nvram.specs.SlotFigures.{slotFigures}
-use Rattle.nvram.proofs.SoundLaws.{bank-reserved, bank-low, bank-high, bank-usable, bank-size, bank-rest, bank-records, checked-slot}
+use Rattle.nvram.specs.Soundness.{slotSummary, soundness}
+use Rattle.nvram.proofs.SoundLaws.{soundness-none, bank-reserved, bank-low, bank-high, bank-usable, bank-size, bank-rest, bank-records}
 use Rattle.nvram.proofs.sound.check_bank.Statement.{statement}
 use Rattle.nvram.proofs.sound.check_bank.Tie as tie
 
@@ -28,25 +26,25 @@ unsound-requires : tie.Need-unsound-requires
 unsound-requires c κs = search needs
 
 returns : tie.Need-returns
-returns c = c .unsound .ensures ∙ checked-none _ (bank-reserved _ _ _ (c .before .if1 .taken))
+returns c = c .unsound .ensures ∙ soundness-none _ (bank-reserved _ _ _ (c .before .if1 .taken))
 
 unsound-requires-2 : tie.Need-unsound-requires-2
 unsound-requires-2 c κs = search needs
 
 returns-2 : tie.Need-returns-2
-returns-2 c = c .unsound2 .ensures ∙ checked-none _ (bank-low _ _ _ (c .before .before .if1 .left) (omega arith))
+returns-2 c = c .unsound2 .ensures ∙ soundness-none _ (bank-low _ _ _ (c .before .before .if1 .left) (omega arith))
 
 unsound-requires-3 : tie.Need-unsound-requires-3
 unsound-requires-3 c κs = search needs
 
 returns-3 : tie.Need-returns-3
-returns-3 c = c .unsound3 .ensures ∙ checked-none _ (bank-high _ _ _ (c .before .before .before .if1 .left) (omega arith) (omega arith))
+returns-3 c = c .unsound3 .ensures ∙ soundness-none _ (bank-high _ _ _ (c .before .before .before .if1 .left) (omega arith) (omega arith))
 
 unsound-requires-4 : tie.Need-unsound-requires-4
 unsound-requires-4 c κs = search needs
 
 returns-4 : tie.Need-returns-4
-returns-4 c = c .unsound4 .ensures ∙ checked-none _ (bank-usable _ _ _ (c .before .before .before .before .if1 .left) (omega arith) (omega arith) (omega arith))
+returns-4 c = c .unsound4 .ensures ∙ soundness-none _ (bank-usable _ _ _ (c .before .before .before .before .if1 .left) (omega arith) (omega arith) (omega arith))
 
 cast-if5 : tie.Need-cast-if5
 cast-if5 c = search needs
@@ -55,7 +53,7 @@ unsound-requires-5 : tie.Need-unsound-requires-5
 unsound-requires-5 c κs = search needs
 
 returns-5 : tie.Need-returns-5
-returns-5 c = c .unsound5 .ensures ∙ checked-none _ (bank-size _ _ _ (c .before .before .before .before .before .before .if1 .left) (omega arith) (omega arith) (omega arith) (omega arith))
+returns-5 c = c .unsound5 .ensures ∙ soundness-none _ (bank-size _ _ _ (c .before .before .before .before .before .before .if1 .left) (omega arith) (omega arith) (omega arith) (omega arith))
 
 sub-all-ff : tie.Need-sub-all-ff
 sub-all-ff c = search needs
@@ -75,7 +73,7 @@ unsound-requires-6 c κs = search needs
 returns-6 : tie.Need-returns-6
 returns-6 c = let a = c .before .before .before .before .before .before .before .before .before .before .before .before .before .before .args in
     let f : allFF (drop (a .entry .total) (a .part .now)) ≡ false = ap allFF (sym (tail (a .part .now) (a .entry .total))) ∙ sym (c .before .before .all-ff .ensures) ∙ not-true _ (c .before .if6 .taken) in
-    c .unsound6 .ensures ∙ checked-none _ (bank-rest (a .header) (a .entry) (a .part .now) (c .before .before .before .before .before .before .before .before .before .if1 .left) (omega arith) (omega arith) (omega arith) (omega arith) f)
+    c .unsound6 .ensures ∙ soundness-none _ (bank-rest (a .header) (a .entry) (a .part .now) (c .before .before .before .before .before .before .before .before .before .if1 .left) (omega arith) (omega arith) (omega arith) (omega arith) f)
 
 part-check-records-start : tie.Need-part-check-records-start
 part-check-records-start c = search needs
@@ -86,11 +84,14 @@ part-check-records-end c = search needs
 check-records-requires : tie.Need-check-records-requires
 check-records-requires c κs = search needs
 
+with-header-requires : tie.Need-with-header-requires
+with-header-requires c κs = search needs
+
 returns-7 : tie.Need-returns-7
-returns-7 c = let a = c .before .before .before .before .before .before .before .before .before .before .before .before .before .before .before .args in
-    let f : allFF (drop (a .entry .total) (a .part .now)) ≡ true = ap allFF (sym (tail (a .part .now) (a .entry .total))) ∙ sym (c .before .before .before .all-ff .ensures) ∙ not-false _ (c .before .before .if6 .left) in
-    c .check-records .ensures ∙ checked-slot (a .counting) (a .header) (a .entry .usable) _
-    ∙ ap (checked (slotFigures (a .counting))) (bank-records (a .header) (a .entry) (a .part .now) (c .before .before .before .before .before .before .before .before .before .before .if1 .left) (omega arith) (omega arith) (omega arith) (omega arith) f)
+returns-7 c = let a = c .before .before .before .before .before .before .before .before .before .before .before .before .before .before .before .before .args in
+    let f : allFF (drop (a .entry .total) (a .part .now)) ≡ true = ap allFF (sym (tail (a .part .now) (a .entry .total))) ∙ sym (c .before .before .before .before .all-ff .ensures) ∙ not-false _ (c .before .before .before .if6 .left) in
+    c .with-header .ensures (a .counting) (a .entry .usable) _ (c .before .check-records .ensures)
+    ∙ ap (soundness (slotSummary (a .counting))) (bank-records (a .header) (a .entry) (a .part .now) (c .before .before .before .before .before .before .before .before .before .before .before .if1 .left) (omega arith) (omega arith) (omega arith) (omega arith) f)
 
 pub check-bank-spec : {M : Type 1} → statement M
 check-bank-spec =
@@ -119,4 +120,5 @@ check-bank-spec =
     part-check-records-start
     part-check-records-end
     check-records-requires
+    with-header-requires
     returns-7)

@@ -1,10 +1,9 @@
 -- `check_slot`: by the kind, `slot-empty` and `slot-invalid`; a Valid one by its head (`slot-head`), of which a fault is unsound (`checked-none`).
 use mathlib.Core.Path.{sym, ap, _∙_}
 use borrow.Author.Needs.{needs}
-use Rattle.records.specs.Checked.{checked}
-use Rattle.records.proofs.CheckedLaws.{checked-none}
 use Rattle.nvram.specs.Part.{viewHead}
-use Rattle.nvram.proofs.SoundLaws.{slot-empty, slot-invalid, slot-head}
+use Rattle.nvram.specs.Soundness.{soundness}
+use Rattle.nvram.proofs.SoundLaws.{soundness-none, slot-empty, slot-invalid, slot-head}
 use Rattle.nvram.proofs.sound.check_slot.Statement.{statement}
 use Rattle.nvram.proofs.sound.check_slot.Tie as tie
 
@@ -57,19 +56,19 @@ returns-2 : tie.Need-returns-2
 returns-2 c = c .check-blank2 .ensures ∙ slot-invalid _ _ _ (c .before .enum-told2 .given .1)
 
 returns-3 : tie.Need-returns-3
-returns-3 c = c .check-bank .ensures ∙ ap (checked _) (slot-head _ _ (c .before .before .before .before .before .enum-told3 .given .1) _ (sym (c .before .before .header .given .1) ∙ c .before .before .before .before .parse .ensures))
+returns-3 c = c .check-bank .ensures ∙ ap (soundness _) (slot-head _ _ (c .before .before .before .before .before .enum-told3 .given .1) _ (sym (c .before .before .header .given .1) ∙ c .before .before .before .before .parse .ensures))
 
 returns-4 : tie.Need-returns-4
 unfolding viewHead
-returns-4 c = c .unsound .ensures ∙ checked-none _ (sym (slot-head _ _ (c .before .before .before .before .enum-told3 .given .1) _ (sym (c .before .enum-told4 .given .1) ∙ c .before .before .before .parse .ensures)))
+returns-4 c = c .unsound .ensures ∙ soundness-none _ (sym (slot-head _ _ (c .before .before .before .before .enum-told3 .given .1) _ (sym (c .before .enum-told4 .given .1) ∙ c .before .before .before .parse .ensures)))
 
 returns-5 : tie.Need-returns-5
 unfolding viewHead
-returns-5 c = c .unsound2 .ensures ∙ checked-none _ (sym (slot-head _ _ (c .before .before .before .before .enum-told3 .given .1) _ (sym (c .before .enum-told5 .given .1) ∙ c .before .before .before .parse .ensures)))
+returns-5 c = c .unsound2 .ensures ∙ soundness-none _ (sym (slot-head _ _ (c .before .before .before .before .enum-told3 .given .1) _ (sym (c .before .enum-told5 .given .1) ∙ c .before .before .before .parse .ensures)))
 
 returns-6 : tie.Need-returns-6
 unfolding viewHead
-returns-6 c = c .unsound3 .ensures ∙ checked-none _ (sym (slot-head _ _ (c .before .before .before .before .enum-told3 .given .1) _ (sym (c .before .enum-told6 .given .1) ∙ c .before .before .before .parse .ensures)))
+returns-6 c = c .unsound3 .ensures ∙ soundness-none _ (sym (slot-head _ _ (c .before .before .before .before .enum-told3 .given .1) _ (sym (c .before .enum-told6 .given .1) ∙ c .before .before .before .parse .ensures)))
 
 pub check-slot-spec : {M : Type 1} → statement M
 check-slot-spec =

@@ -1,0 +1,55 @@
+// What the check for refusal 6 answers: 01, 'Refusals from the state'.
+use bank::StoreHeader;
+use records::Figures;
+ghost use mathlib.Core.Path.{_≡_};
+ghost use mathlib.Core.Bool.{cond};
+ghost use Rattle.nvram.specs.Soundness.{noSummary, unsound};
+
+// A Valid bank's header and what its live records come to by section; zeros for any other slot, and no sums where none were to be counted.
+pub struct Summary {
+    pub header: StoreHeader,
+    pub used: Figures,
+}
+
+impl Summary {
+    pub fn none() -> Summary
+        ensures { λ r. ⌜ r ≡ noSummary ⌝ }
+    {
+        let header = StoreHeader {
+            size: 0,
+            generation: 0,
+            state: 0,
+            flags: 0,
+            system_size: 0,
+            common_size: 0,
+        };
+        Summary {
+            header,
+            used: Figures::none(),
+        }
+    }
+
+    // This where the test holds, else another.
+    pub fn or_else(self, test: bool, other: Summary) -> Summary
+        ensures { λ r. ⌜ r ≡ cond test self other ⌝ }
+    {
+        if test { self } else { other }
+    }
+}
+
+// Whether all is sound, and the summary of the bank that was looked at: in a table, the active one.
+pub struct Soundness {
+    pub sound: bool,
+    pub bank: Summary,
+}
+
+impl Soundness {
+    pub fn unsound() -> Soundness
+        ensures { λ r. ⌜ r ≡ unsound ⌝ }
+    {
+        Soundness {
+            sound: false,
+            bank: Summary::none(),
+        }
+    }
+}
