@@ -1,6 +1,6 @@
 -- A commit that moves the active bank, in the numbers that the code has: written where it moved, or refused by 12.
 use Prim.Native.Nat.{ℕ, _+_, _*_, _%_, _≤_, _<_}
-use mathlib.Core.Path.{_≡_, refl, sym, ap, ap₂, _∙_, subst}
+use mathlib.Core.Path.{_≡_, refl, sym, ap, ap₂, _∙_}
 use mathlib.Core.List.{List, [], _++_}
 use mathlib.Core.Bool.{Bool, true, false}
 use mathlib.Core.Logic.{_⊎_, inl, inr}
@@ -122,29 +122,29 @@ module _ {s : Nvram} {w : List ℕ} {h : StoreHeader} {from to : ℕ} (m : Movin
       (moved-fine k (f .0) (move-grows k judged-move), omega (arith, f .1, sizes-select live (k .records)))
 
   -- what move_bank leaves of a header r: the total t and the work area w′
-  abbrev pub Carried : StoreHeader → ℕ → List ℕ → Type 0
-  Carried r t w′ =
+  abbrev pub Copied : StoreHeader → ℕ → List ℕ → Type 0
+  Copied r t w′ =
       (rs : List Record) → Holds w from to rs
       → (t ≡ 24 + sizes (select live rs)) × (w′ ≡ over (next * 131072) (partOf partSize (valid (bankOf r (select live rs) (r .size)))) w)
 
-  pub total-fits : (r : StoreHeader) (t : ℕ) (w′ : List ℕ) → Carried r t w′ → t ≤ 131072
+  pub total-fits : (r : StoreHeader) (t : ℕ) (w′ : List ℕ) → Copied r t w′ → t ≤ 131072
   total-fits r t w′ c = omega (arith, c (k .records) stand .0, sizes-select live (k .records), total-high g v)
 
   -- what the code's calls left: besides, the erase request e and the state s′
   pub record MoveLeft (t : ℕ) (w′ : List ℕ) (e : Option ℕ) (s′ : Nvram) : Type 0 where
     pub header : StoreHeader
     pub header-raised : header ≡ raised h
-    pub carried : Carried header t w′
-    pub requested : (x : Slot) → getD (s .banks) next (entry Empty 0 0) .kind ≡ entryOf x .kind → e ≡ request x next
+    pub copied : Copied header t w′
+    pub erase-is : (x : Slot) → getD (s .banks) next (entry Empty 0 0) .kind ≡ entryOf x .kind → e ≡ request x next
     pub state : s′ ≡ movedState s next t (h .size) e
 
   module _ {t : ℕ} {w′ : List ℕ} {e : Option ℕ} {s′ : Nvram} (l : MoveLeft t w′ e s′) where
     total-left : t ≡ 24 + sizes (select live (k .records))
-    total-left = l .carried (k .records) stand .0
+    total-left = l .copied (k .records) stand .0
 
     work-left : w′ ≡ over (next * 131072) (partOf partSize (valid (moved k))) w
     work-left =
-        l .carried (k .records) stand .1
+        l .copied (k .records) stand .1
         ∙ ap (λ (x : StoreHeader). over (next * 131072) (partOf partSize (valid (bankOf x (select live (k .records)) (x .size)))) w)
         (l .header-raised ∙ ap raised (header-is (m .known)))
 
@@ -159,7 +159,7 @@ module _ {s : Nvram} {w : List ℕ} {h : StoreHeader} {from to : ℕ} (m : Movin
 
     request-is : e ≡ request (nextSlot b) (nextBank b)
     request-is =
-        l .requested (getD (b .slots) next invalid)
+        l .erase-is (getD (b .slots) next invalid)
         (ap (λ (x : List Entry). getD x next (entry Empty 0 0) .kind) (banks-are g) ∙ ap (λ (x : Entry). x .kind) (table-at (b .slots) next (inside g next next-low)))
         ∙ ap (λ (i : ℕ). request (getD (b .slots) i invalid) i) next-is
 

@@ -11,7 +11,7 @@ use lib.ListN.{length, set, take, drop, length-drop}
 use lib.Seq.{length-take-le}
 use borrow.Author.Tests.{lt-ltb, le-ltb, eq-eqb, ne-eqb}
 use Rattle.buffers.specs.Bytes.{onto}
-use Rattle.buffers.proofs.Laws.{onto-fits}
+use Rattle.buffers.proofs.Laws.{clash, onto-fits}
 use Rattle.bank.specs.declared.header.StoreHeader.{StoreHeader}
 use Rattle.bank.specs.Bank.{Slot, empty, invalid, valid, bankSize}
 use Rattle.book.specs.Commit.{refuse, inPlace, move, judge, request}
@@ -22,7 +22,7 @@ use Rattle.nvram.specs.declared.state.Nvram.{Nvram}
 use Rattle.nvram.specs.Part.{entry, entryOf}
 use Rattle.commit.specs.declared.Erase.{Erase}
 use Rattle.commit.specs.declared.Erase.the-variants.{At}
-use Rattle.commit.specs.Applied.{requested, movedState}
+use Rattle.commit.specs.Applied.{eraseOf, movedState}
 
 -- the judgement, test by test
 module _ (h : StoreHeader) (system common : ℕ) (d : Bool) where
@@ -53,23 +53,23 @@ module _ {x : Kind} (i : ℕ) where
   pub request-none : x ≡ Empty → (k : Slot) → x ≡ entryOf k .kind → none ≡ request k i
   unfolding request entryOf
   request-none e empty p = refl
-  request-none e invalid p = let z : _≡_ {A = ℕ} 0 1 = cc in absurd (omega arith)
-  request-none e (valid k) p = let z : _≡_ {A = ℕ} 0 1 = cc in absurd (omega arith)
+  request-none e invalid p = clash cc
+  request-none e (valid k) p = clash cc
 
   pub request-some : (x ≡ Invalid) ⊎ (x ≡ Valid) → (k : Slot) → x ≡ entryOf k .kind → some (i * 65536) ≡ request k i
   unfolding request entryOf bankSize
-  request-some (inl e) empty p = let z : _≡_ {A = ℕ} 0 1 = cc in absurd (omega arith)
-  request-some (inr e) empty p = let z : _≡_ {A = ℕ} 0 1 = cc in absurd (omega arith)
+  request-some (inl e) empty p = clash cc
+  request-some (inr e) empty p = clash cc
   request-some e invalid p = refl
   request-some e (valid k) p = refl
 
 -- one more erase request
 module _ (t : Tally) {offset : ℕ} {e : Erase} (at : e ≡ At offset) where
-  pub tally-full : t ≡ 4294967295 → t ≡ counted (requested e) t
-  tally-full h = h ∙ sym (min-eq-right (omega arith)) ∙ ap (λ (x : Erase). counted (requested x) t) (sym at)
+  pub tally-full : t ≡ 4294967295 → t ≡ counted (eraseOf e) t
+  tally-full h = h ∙ sym (min-eq-right (omega arith)) ∙ ap (λ (x : Erase). counted (eraseOf x) t) (sym at)
 
-  pub tally-more : t + 1 < 4294967296 → t + 1 ≡ counted (requested e) t
-  tally-more h = sym (min-eq-left (omega arith)) ∙ ap (λ (x : Erase). counted (requested x) t) (sym at)
+  pub tally-more : t + 1 < 4294967296 → t + 1 ≡ counted (eraseOf e) t
+  tally-more h = sym (min-eq-left (omega arith)) ∙ ap (λ (x : Erase). counted (eraseOf x) t) (sym at)
 
 pub moved-is : (s : Nvram) (i total size : ℕ) (t : Tally) (e : Option ℕ) → t ≡ counted e (s .tally)
     → record { n = s .n; active = i; tally = t; banks = set (s .banks) i (entry Valid total size) } ≡ movedState s i total size e
@@ -77,9 +77,9 @@ unfolding movedState
 moved-is s i total size t e p = λ j. record { n = s .n; active = i; tally = p j; banks = set (s .banks) i (entry Valid total size) }
 
 -- n bytes of w from a place on, over the front of an output
-pub written : (a n : ℕ) (w o y : List ℕ) → a + n ≤ length w → n ≤ length o → y ≡ onto (take (a + n - a) (drop a w)) o
+pub front-written : (a n : ℕ) (w o y : List ℕ) → a + n ≤ length w → n ≤ length o → y ≡ onto (take (a + n - a) (drop a w)) o
     → y ≡ take n (drop a w) ++ drop n o
-written a n w o y h k e =
+front-written a n w o y h k e =
     let l : length (take n (drop a w)) ≡ n = length-take-le n (drop a w) (omega (arith, length-drop a w)) in
     let m : a + n - a ≡ n = omega arith in
     e ∙ ap (λ (i : ℕ). onto (take i (drop a w)) o) m ∙ onto-fits (take n (drop a w)) o (omega arith)

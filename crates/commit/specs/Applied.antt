@@ -14,12 +14,12 @@ use Rattle.commit.specs.declared.Applied.{Applied}
 use Rattle.commit.specs.declared.Judged as code
 
 -- no erase request, or one
-abbrev pub requested : Erase → Option ℕ
-requested Nothing = none
-requested (At offset) = some offset
+abbrev pub eraseOf : Erase → Option ℕ
+eraseOf Nothing = none
+eraseOf (At offset) = some offset
 
 abbrev pub applied : Applied → Answer
-applied r = committed (r .number) (requested (r .erase)) (r .offset) (r .length)
+applied r = committed (r .number) (eraseOf (r .erase)) (r .offset) (r .length)
 
 abbrev pub verdict : code.Judged → Judged
 verdict (code.the-variants.Refuse n) = refuse n

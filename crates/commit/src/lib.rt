@@ -19,7 +19,7 @@ ghost use Rattle.book.specs.Call.{committed};
 ghost use Rattle.book.specs.Tally.{counted};
 ghost use Rattle.nvram.specs.Ready.{activeEntry};
 ghost use Rattle.nvram.specs.Part.{entryOf};
-ghost use Rattle.commit.specs.Applied.{applied, verdict, requested, movedState};
+ghost use Rattle.commit.specs.Applied.{applied, verdict, eraseOf, movedState};
 ghost use Rattle.commit.specs.Active.{Active, MoveDue, Used, Commits};
 
 // Nothing is to be erased, or the bank at an offset.
@@ -45,7 +45,7 @@ enum Judged {
 }
 
 fn refused(state: Nvram, number: u32, erase: Erase) -> Applied
-    ensures { λ r. ⌜ (applied r ≡ committed number (requested erase) 0 0) × (r .length ≡ 0) × (r .state ≡ state) ⌝ }
+    ensures { λ r. ⌜ (applied r ≡ committed number (eraseOf erase) 0 0) × (r .length ≡ 0) × (r .state ≡ state) ⌝ }
 {
     Applied {
         number,
@@ -88,7 +88,7 @@ fn raised(header: StoreHeader) -> StoreHeader
 // Bank i is to be erased unless its slot is Empty.
 fn request(kind: Kind, i: usize) -> Erase
     requires { ⌜ i < 16 ⌝ }
-    ensures { λ r. ⌜ ((k : Slot) → kind ≡ entryOf k .kind → requested r ≡ requestOf k i) ⌝ }
+    ensures { λ r. ⌜ ((k : Slot) → kind ≡ entryOf k .kind → eraseOf r ≡ requestOf k i) ⌝ }
 {
     match kind {
         Kind::Empty => Erase::Nothing,
@@ -99,7 +99,7 @@ fn request(kind: Kind, i: usize) -> Erase
 
 // The tally stops at its greatest number.
 fn tally(tally: Tally, erase: Erase) -> Tally
-    ensures { λ r. ⌜ r ≡ counted (requested erase) tally ⌝ }
+    ensures { λ r. ⌜ r ≡ counted (eraseOf erase) tally ⌝ }
 {
     match erase {
         Erase::Nothing => tally,
@@ -116,7 +116,7 @@ fn tally(tally: Tally, erase: Erase) -> Tally
 // The state with a bank of this total and size in slot i, which becomes active.
 fn moved(state: Nvram, i: usize, total: usize, size: u32, erase: Erase) -> Nvram
     requires { ⌜ (i < 16) × (total ≤ 131072) ⌝ }
-    ensures { λ r. ⌜ r ≡ movedState state i total size (requested erase) ⌝ }
+    ensures { λ r. ⌜ r ≡ movedState state i total size (eraseOf erase) ⌝ }
 {
     let mut next = state;
     next.active = i as u32;
@@ -132,7 +132,7 @@ fn moved(state: Nvram, i: usize, total: usize, size: u32, erase: Erase) -> Nvram
 // The active bank's first bytes, as many as its size, to the output.
 fn write(state: Nvram, work: &[u8], output: &mut [u8], size: usize, erase: Erase) -> Applied
     requires { ⌜ (state .active < 16) × (size ≤ 65536) × (state .active * 131072 + 131072 ≤ length (now work)) × (65536 ≤ length (now output)) ⌝ }
-    ensures { λ r. ⌜ (applied r ≡ committed 0 (requested erase) (state .active * 65536) size) × (r .length ≡ size) × (r .state ≡ state) × (now (output .exit) ≡ take size (drop (state .active * 131072) (now (work .entry))) ++ drop size (now (output .entry))) ⌝ }
+    ensures { λ r. ⌜ (applied r ≡ committed 0 (eraseOf erase) (state .active * 65536) size) × (r .length ≡ size) × (r .state ≡ state) × (now (output .exit) ≡ take size (drop (state .active * 131072) (now (work .entry))) ++ drop size (now (output .entry))) ⌝ }
 {
     let i = state.active as usize;
     let part = i * Nvram::PART_SIZE;

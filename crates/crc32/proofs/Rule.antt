@@ -59,8 +59,8 @@ entries xs t len k h =
     let e : 0 + k ≡ k = omega arith in
     pair-at (count 256 0) xs t k (omega arith) ∙ ap (bitSteps 8) (count-at 256 0 k h ∙ e)
 
-pub first : (xs : List ℕ) → T (pairs (count 256 0) xs) → length xs ≡ 256 → IsTables 1 xs
-first xs t len = record { rule = one }
+pub first-table : (xs : List ℕ) → T (pairs (count 256 0) xs) → length xs ≡ 256 → IsTables 1 xs
+first-table xs t len = record { rule = one }
   where
     one : (j k : ℕ) → j < 1 → k < 256 → getD xs (j * 256 + k) 0 ≡ bitSteps (8 * (j + 1)) k
     one zero k hj hk = let e : 0 * 256 + k ≡ k = omega arith in ap (λ (i : ℕ). getD xs i 0) e ∙ entries xs t len k hk

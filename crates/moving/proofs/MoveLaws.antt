@@ -83,8 +83,8 @@ module _ {w : List ℕ} {from end part : ℕ} (m : Movable w from end part) (h :
     behind (inl a) = inl a
     behind (inr a) = inr (omega arith)
 
-    pub carriable : ((rs : List Record) × Holds v from end rs) × (part + 24 + (end - from) ≤ length v) × ReadFirst (part + 24) from end
-    carriable = ((m .records, held (m .records) (m .holds)), omega (arith, same, m .few, m .room), behind (m .apart))
+    pub copyable : ((rs : List Record) × Holds v from end rs) × (part + 24 + (end - from) ≤ length v) × ReadFirst (part + 24) from end
+    copyable = ((m .records, held (m .records) (m .holds)), omega (arith, same, m .few, m .room), behind (m .apart))
 
     -- the live records carried behind it
     module _ (p : ℕ) (u : List ℕ)

@@ -4,7 +4,7 @@ use mathlib.Core.Path.{_≡_, refl, sym, ap, _∙_}
 use mathlib.Core.List.{List, []}
 use mathlib.Core.Bool.{true, false}
 use mathlib.Core.Option.{Option, none, some}
-use native.Mathlib.Omega.{arith}
+use Rattle.buffers.proofs.Laws.{clash}
 use Rattle.bank.specs.Bank.{Bank, Slot, empty, invalid, valid}
 use Rattle.records.specs.Checked.{isSome}
 use Rattle.book.specs.Book.{Book, activeSlot}
@@ -18,12 +18,12 @@ use Rattle.nvram.specs.Layout.{layState, layWork, view}
 use Rattle.nvram.specs.Contract.{onBook, call, Does}
 
 pub some-of : {A : Type 0} (o : Option A) → isSome o ≡ true → (x : A) × (o ≡ some x)
-some-of none e = let z : _≡_ {A = ℕ} 0 1 = cc in absurd (omega arith)
+some-of none e = clash cc
 some-of (some x) e = (x, refl)
 
 none-of : {A : Type 0} (o : Option A) → isSome o ≡ false → o ≡ none
 none-of none e = refl
-none-of (some x) e = let z : _≡_ {A = ℕ} 0 1 = cc in absurd (omega arith)
+none-of (some x) e = clash cc
 
 -- refused by 6: state and work area are not sound
 pub does-6 : (c : Call) (s : Nvram) (w : List ℕ) → isSome (view s w) ≡ false → Does c s w (refusal c 6) [] s w
@@ -67,8 +67,8 @@ does c s w b o a x s′ w′ v q l =
 pub kind-valid : (x : Slot) → entryOf x .kind ≡ Valid → (k : Bank) × (x ≡ valid k)
 unfolding entryOf
 kind-valid (valid k) e = (k, refl)
-kind-valid empty e = let z : _≡_ {A = ℕ} 0 1 = cc in absurd (omega arith)
-kind-valid invalid e = let z : _≡_ {A = ℕ} 0 1 = cc in absurd (omega arith)
+kind-valid empty e = clash cc
+kind-valid invalid e = clash cc
 
 -- the calls that ask for the active bank right after 6
 abbrev pub OnActive : Call → Type 0
@@ -99,7 +99,7 @@ unfolding bySlot
 by-valid b c f k e = ap (bySlot b c f) e
 
 pub empty-valid : (k : Kind) → k ≡ Empty → k ≡ Valid → ⊥
-empty-valid k p q = let z : _≡_ {A = ℕ} 0 1 = cc in omega arith
+empty-valid k p q = clash cc
 
 pub invalid-valid : (k : Kind) → k ≡ Invalid → k ≡ Valid → ⊥
-invalid-valid k p q = let z : _≡_ {A = ℕ} 0 1 = cc in omega arith
+invalid-valid k p q = clash cc

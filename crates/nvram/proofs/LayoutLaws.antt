@@ -11,7 +11,7 @@ use lib.Seq.{take-at, drop-at, take-add, length-take-le}
 use borrow.Author.Tests.{eqb-true, le-leb, leb-true, lt-ltb, ltb-true}
 use Rattle.crc32.specs.Crc32.{Bytes}
 use Rattle.crc32.proofs.ByteLaws.{bytes-take, bytes-drop}
-use Rattle.buffers.proofs.Laws.{and-both}
+use Rattle.buffers.proofs.Laws.{clash, and-both}
 use Rattle.bank.specs.Bank.{Slot, invalid, partOf}
 use Rattle.bank.specs.Totals.{total}
 use Rattle.book.specs.Book.{partSize, Book, FineSlots, FineBook}
@@ -92,8 +92,8 @@ all-free (suc n) = all-free n
 
 empty-kind : (k : Kind) → isEmpty k ≡ true → k ≡ Empty
 empty-kind Empty e = refl
-empty-kind Invalid e = let z : _≡_ {A = ℕ} 0 1 = cc in absurd (omega arith)
-empty-kind Valid e = let z : _≡_ {A = ℕ} 0 1 = cc in absurd (omega arith)
+empty-kind Invalid e = clash cc
+empty-kind Valid e = clash cc
 
 free-entry : (e : Entry) → isFree e ≡ true → e ≡ entry Empty 0 0
 free-entry e h =
@@ -142,8 +142,8 @@ view-lay b tally w f =
 prepend-some : (a : Option Slot) (o : Option (List Slot)) (ss : List Slot) → prependSlot a o ≡ some ss
     → (s : Slot) × (qs : List Slot) × (a ≡ some s) × (o ≡ some qs) × (s ∷ qs ≡ ss)
 unfolding prependSlot
-prepend-some none o ss e = let z : _≡_ {A = ℕ} 0 1 = cc in absurd (omega arith)
-prepend-some (some s) none ss e = let z : _≡_ {A = ℕ} 0 1 = cc in absurd (omega arith)
+prepend-some none o ss e = clash cc
+prepend-some (some s) none ss e = clash cc
 prepend-some (some s) (some qs) ss e = (s, qs, refl, refl, cc)
 
 record LaidSlots (n : ℕ) (es : List Entry) (w : List ℕ) (ss : List Slot) : Type 0 where
@@ -198,7 +198,7 @@ range-back s w e =
 book-some : (s : Nvram) (o : Option (List Slot)) (b : Book) → bookWith s o ≡ some b
     → (ss : List Slot) × (o ≡ some ss) × (record { n = s .n; active = s .active; slots = ss } ≡ b)
 unfolding bookWith
-book-some s none b e = let z : _≡_ {A = ℕ} 0 1 = cc in absurd (omega arith)
+book-some s none b e = clash cc
 book-some s (some ss) b e = (ss, refl, cc)
 
 slots-back : (n : ℕ) (es : List Entry) (w : List ℕ) (ss : List Slot) → Bytes w → n * partSize ≤ length w
@@ -208,7 +208,7 @@ slots-back zero es w ss y l v =
     let o = held (allFree es) (some []) ss v in
     let q : [] ≡ ss = cc (o .1) in
     subst (LaidSlots 0 es w) q (laid-none es w (o .0))
-slots-back (suc n) [] w ss y l v = let z : _≡_ {A = ℕ} 0 1 = cc in absurd (omega arith)
+slots-back (suc n) [] w ss y l v = clash cc
 slots-back (suc n) (e ∷ es) w ss y l v =
     let o = prepend-some (viewSlot e (take partSize w)) (viewSlots n es (drop partSize w)) ss v in
     let m : n * partSize + partSize ≤ length w = rw suc-mul at l in

@@ -6,6 +6,7 @@ use mathlib.Core.Bool.{Bool, true, false, cond}
 use native.Mathlib.Omega.{arith}
 use lib.ListN.{length}
 use Rattle.crc32.specs.Crc32.{Bytes}
+use Rattle.buffers.proofs.Laws.{clash}
 use Rattle.bank.specs.Record.{Record}
 use Rattle.records.specs.Checked.{isSome}
 use Rattle.records.specs.Records.{Holds}
@@ -81,7 +82,7 @@ module _ {s : Nvram} {w : List ℕ} (bytes : Bytes w) (long : length (s .banks) 
       go false x a b p = number 6 p (does-6 c s w a)
       go true Empty a b p = number 7 p (does-7 (known a) c u (empty-valid _ b))
       go true Invalid a b p = number 7 p (does-7 (known a) c u (invalid-valid _ b))
-      go true Valid a b p = let z : _≡_ {A = ℕ} 0 1 = cc in absurd (omega arith)
+      go true Valid a b p = clash cc
 
   pub standing : (from to : ℕ) → r ≡ Records from to → Standing s w from to
   unfolding readyOf byKind
@@ -89,7 +90,7 @@ module _ {s : Nvram} {w : List ℕ} (bytes : Bytes w) (long : length (s .banks) 
     where
       go : (g : Bool) (x : Kind) → isSome (view s w) ≡ g → activeEntry s .kind ≡ x → Records from to ≡ cond g (byKind x s) (Refused 6)
           → Standing s w from to
-      go false x a b p = let z : _≡_ {A = ℕ} 0 1 = cc in absurd (omega arith)
-      go true Empty a b p = let z : _≡_ {A = ℕ} 0 1 = cc in absurd (omega arith)
-      go true Invalid a b p = let z : _≡_ {A = ℕ} 0 1 = cc in absurd (omega arith)
+      go false x a b p = clash cc
+      go true Empty a b p = clash cc
+      go true Invalid a b p = clash cc
       go true Valid a b p = record { sound = known a; valid = b; from-is = cc; to-is = cc }

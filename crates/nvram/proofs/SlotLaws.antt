@@ -11,7 +11,7 @@ use borrow.Author.Tests.{eq-eqb, eqb-true, le-leb, leb-true}
 use Rattle.crc32.specs.Crc32.{Bytes}
 use Rattle.crc32.proofs.ByteLaws.{bytes-take, bytes-drop}
 use Rattle.buffers.specs.Bytes.{allFF}
-use Rattle.buffers.proofs.Laws.{all-ff-is, all-ff-replicate, and-both}
+use Rattle.buffers.proofs.Laws.{clash, all-ff-is, all-ff-replicate, and-both}
 use Rattle.bank.specs.declared.header.StoreHeader.{StoreHeader}
 use Rattle.bank.specs.declared.header.Head.{Head}
 use Rattle.bank.specs.declared.header.Head.the-variants.{Good, Signature, Version, Size}
@@ -127,7 +127,7 @@ slot-view (valid b) f = bank-view b (f .0) (f .1)
 -- a test that gave something held
 pub held : {A : Type 0} (t : Bool) (o : Option A) (x : A) → cond t o none ≡ some x → (t ≡ true) × (o ≡ some x)
 held true o x e = (refl, e)
-held false o x e = let z : _≡_ {A = ℕ} 0 1 = cc in absurd (omega arith)
+held false o x e = clash cc
 
 fits-back : (h : StoreHeader) (e : Entry) (p : List ℕ) (k : Slot) → viewHead (Good h) e p ≡ some k
     → Fits h e p × (slotWith h (e .usable) (viewRecords (take (e .total - 24) (drop 24 p))) ≡ some k)
@@ -153,7 +153,7 @@ fits-back h e p k v =
 slot-some : (h : StoreHeader) (u : ℕ) (o : Option (List Record)) (k : Slot) → slotWith h u o ≡ some k
     → (rs : List Record) × (o ≡ some rs) × (valid (bankOf h rs u) ≡ k)
 unfolding slotWith
-slot-some h u none k e = let z : _≡_ {A = ℕ} 0 1 = cc in absurd (omega arith)
+slot-some h u none k e = clash cc
 slot-some h u (some rs) k e = (rs, refl, cc)
 
 -- e and p are the entry and the part of a slot
@@ -210,9 +210,9 @@ slot-back e p k y n v = by-kind (e .kind) refl v
         let f = fits-back h e p k v in
         let r = slot-some h (e .usable) (viewRecords (take (e .total - 24) (drop 24 p))) k (f .1) in
         subst (Laid e p) (r .2) (bank-back e p y n h (r .0) q g (f .0) (r .1))
-    by-head q Signature g v = let z : _≡_ {A = ℕ} 0 1 = cc in absurd (omega arith)
-    by-head q Version g v = let z : _≡_ {A = ℕ} 0 1 = cc in absurd (omega arith)
-    by-head q Size g v = let z : _≡_ {A = ℕ} 0 1 = cc in absurd (omega arith)
+    by-head q Signature g v = clash cc
+    by-head q Version g v = clash cc
+    by-head q Size g v = clash cc
 
     blank : (c : Kind) (x : Slot) → e .kind ≡ c → entryOf x ≡ entry c 0 0 → partOf partSize x ≡ replicate partSize 255 → FineSlot x
         → cond (isBlank e p) (some x) none ≡ some k → Laid e p k

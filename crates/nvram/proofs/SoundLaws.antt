@@ -27,12 +27,12 @@ use Rattle.nvram.specs.declared.state.Entry.{Entry}
 use Rattle.nvram.specs.declared.summary.Summary.{Summary}
 use Rattle.nvram.specs.declared.summary.Soundness.{Soundness}
 use Rattle.nvram.specs.Part.{entry, slotWith, viewHead, isBlank, viewKind, viewSlot}
-use Rattle.nvram.specs.Soundness.{noSummary, slotSummary, unsound, soundness}
+use Rattle.nvram.specs.Soundness.{noSummary, slotSummary, notSound, soundness}
 use Rattle.nvram.specs.Layout.{isFree, allFree}
 
 -- what it answers
 module _ {A : Type 0} (f : A → Summary) where
-  pub soundness-none : {o : Option A} → o ≡ none → unsound ≡ soundness f o
+  pub soundness-none : {o : Option A} → o ≡ none → notSound ≡ soundness f o
   unfolding soundness
   soundness-none e = ap (soundness f) (sym e)
 
@@ -93,17 +93,17 @@ module _ (h : StoreHeader) (e : Entry) (p : List ℕ) where
 
 -- a bank by the check of its records
 module _ (h : StoreHeader) (x : Checked) (counting : Bool) (u : ℕ) where
-  pub rows-unsound : (o : Option (List Record)) → x ≡ checked (recordsFigures counting) o → x .sound ≡ false
-      → unsound ≡ soundness (slotSummary counting) (slotWith h u o)
+  pub records-unsound : (o : Option (List Record)) → x ≡ checked (recordsFigures counting) o → x .sound ≡ false
+      → notSound ≡ soundness (slotSummary counting) (slotWith h u o)
   unfolding slotWith soundness
-  rows-unsound none e t = refl
-  rows-unsound (some rs) e t = absurd (true≢false (sym (checked-sound _ x (some rs) e) ∙ t))
+  records-unsound none e t = refl
+  records-unsound (some rs) e t = absurd (true≢false (sym (checked-sound _ x (some rs) e) ∙ t))
 
-  pub rows-sound : (o : Option (List Record)) → x ≡ checked (recordsFigures counting) o → x .sound ≡ true
+  pub records-sound : (o : Option (List Record)) → x ≡ checked (recordsFigures counting) o → x .sound ≡ true
       → record { sound = true; bank = record { header = h; used = x .used } } ≡ soundness (slotSummary counting) (slotWith h u o)
   unfolding slotWith soundness slotSummary checked
-  rows-sound none e t = absurd (true≢false (sym t ∙ checked-sound (recordsFigures counting) x none e))
-  rows-sound (some rs) e t = ap (λ (y : Checked). record { sound = true; bank = record { header = h; used = y .used } }) e
+  records-sound none e t = absurd (true≢false (sym t ∙ checked-sound (recordsFigures counting) x none e))
+  records-sound (some rs) e t = ap (λ (y : Checked). record { sound = true; bank = record { header = h; used = y .used } }) e
 
 -- a slot by its kind
 sound-if : (t : Bool) (f : Slot → Summary) (s : Slot) → f s ≡ noSummary

@@ -11,6 +11,7 @@ use lib.ListN.{length, getD, take, drop}
 use lib.Seq.{drop-cons, drop-drop}
 use lib.Dec.{eqb}
 use borrow.Author.Tests.{eq-eqb, ne-eqb, le-leb, lt-leb, lt-ltb, le-ltb}
+use Rattle.buffers.proofs.Laws.{clash}
 use Rattle.bank.specs.Bank.{Slot}
 use Rattle.book.specs.Book.{partSize}
 use Rattle.nvram.specs.declared.state.Kind.the-variants.{Empty}
@@ -20,7 +21,7 @@ use Rattle.nvram.specs.declared.summary.Summary.{Summary}
 use Rattle.nvram.specs.declared.summary.Soundness.{Soundness}
 use Rattle.nvram.specs.Part.{entry, viewSlot}
 use Rattle.nvram.specs.Layout.{allFree, prependSlot, viewSlots, bookWith, inRange, view}
-use Rattle.nvram.specs.Soundness.{noSummary, slotSummary, summaryAt, activeSummary, unsound, soundness}
+use Rattle.nvram.specs.Soundness.{noSummary, slotSummary, summaryAt, activeSummary, notSound, soundness}
 
 -- what the walk ends with when it comes with u to these slots, the first of them number i
 unfoldable pub summaryFrom : Bool → ℕ → ℕ → Summary → List Slot → Summary
@@ -49,17 +50,17 @@ soundness-same e (some x) = ap (λ (u : Summary). record { sound = true; bank = 
 
 -- one slot before others
 prepend-fails : (g : Slot → Summary) (f : List Slot → Summary) (o : Option Slot) (r : Option (List Slot))
-    → (soundness g o) .sound ≡ false → soundness f (prependSlot o r) ≡ unsound
+    → (soundness g o) .sound ≡ false → soundness f (prependSlot o r) ≡ notSound
 unfolding soundness prependSlot
 prepend-fails g f none r n = refl
-prepend-fails g f (some s) r n = let z : _≡_ {A = ℕ} 0 1 = cc in absurd (omega arith)
+prepend-fails g f (some s) r n = clash cc
 
 prepend-holds : (c : Bool) (a i : ℕ) (u : Summary) (o : Option Slot) (r : Option (List Slot))
     → (soundness (slotSummary (c && eqb i a)) o) .sound ≡ true
     → soundness (summaryFrom c a i u) (prependSlot o r)
     ≡ soundness (summaryFrom c a (i + 1) (cond (eqb i a) ((soundness (slotSummary (c && eqb i a)) o) .bank) u)) r
 unfolding soundness prependSlot summaryFrom
-prepend-holds c a i u none r t = let z : _≡_ {A = ℕ} 0 1 = cc in absurd (omega arith)
+prepend-holds c a i u none r t = clash cc
 prepend-holds c a i u (some s) none t = refl
 prepend-holds c a i u (some s) (some ss) t = refl
 
@@ -108,7 +109,7 @@ module _ (n : ℕ) (es : List Entry) (w : List ℕ) where
         sound-here : (soundness (slotSummary (c && eqb i a)) (slotAt i)) .sound ≡ x .sound
         sound-here = ap (λ (y : Soundness). y .sound) (sym e)
 
-        pub walk-fails : x .sound ≡ false → walkFrom u i ≡ unsound
+        pub walk-fails : x .sound ≡ false → walkFrom u i ≡ notSound
         walk-fails q =
             ap (soundness (summaryFrom c a i u)) (slots-more i h l)
             ∙ prepend-fails (slotSummary (c && eqb i a)) (summaryFrom c a i u) (slotAt i) (slotsFrom (i + 1)) (sound-here ∙ q)
@@ -124,7 +125,7 @@ module _ (n : ℕ) (es : List Entry) (w : List ℕ) where
         walk-last : walkFrom u i ≡ soundness (summaryFrom c a i u) (cond (allFree (drop n es)) (some []) none)
         walk-last = ap (λ (j : ℕ). soundness (summaryFrom c a i u) (slotsFrom j)) (sym e) ∙ ap (soundness (summaryFrom c a i u)) slots-none
 
-        pub walk-unfree : allFree (drop n es) ≡ false → walkFrom u i ≡ unsound
+        pub walk-unfree : allFree (drop n es) ≡ false → walkFrom u i ≡ notSound
         unfolding soundness
         walk-unfree q = walk-last ∙ rw q refl
 

@@ -31,10 +31,10 @@ summaryAt counting i ss = slotSummary counting (getD ss i invalid)
 unfoldable pub activeSummary : Bool → Book → Summary
 activeSummary counting b = slotSummary counting (activeSlot b)
 
-abbrev pub unsound : Soundness
-unsound = record { sound = false; bank = noSummary }
+abbrev pub notSound : Soundness
+notSound = record { sound = false; bank = noSummary }
 
 -- what was viewed, with its summary, or nothing
 unfoldable pub soundness : {A : Type 0} → (A → Summary) → Option A → Soundness
-soundness f none = unsound
+soundness f none = notSound
 soundness f (some x) = record { sound = true; bank = f x }

@@ -88,13 +88,13 @@ fn check_blank(entry: Entry, part: &[u8]) -> Soundness
 }
 
 // Of a bank, by its header and the check of its records.
-fn with_header(header: StoreHeader, rows: Checked) -> Soundness
-    ensures { λ r. ⌜ ((counting : Bool) (u : ℕ) (o : Option (List Record)) → rows ≡ checked (recordsFigures counting) o → r ≡ soundness (slotSummary counting) (slotWith header u o)) ⌝ }
+fn with_header(header: StoreHeader, answer: Checked) -> Soundness
+    ensures { λ r. ⌜ ((counting : Bool) (u : ℕ) (o : Option (List Record)) → answer ≡ checked (recordsFigures counting) o → r ≡ soundness (slotSummary counting) (slotWith header u o)) ⌝ }
 {
-    if !rows.sound {
+    if !answer.sound {
         return Soundness::unsound();
     }
-    let used = rows.used;
+    let used = answer.used;
     Soundness {
         sound: true,
         bank: Summary { header, used },
@@ -132,8 +132,8 @@ fn check_bank(
     if !buffers::all_ff(&part[total..]) {
         return Soundness::unsound();
     }
-    let rows = check_records(t, &part[Variable::STORE_HEADER_SIZE..total], counting);
-    with_header(header, rows)
+    let answer = check_records(t, &part[Variable::STORE_HEADER_SIZE..total], counting);
+    with_header(header, answer)
 }
 
 // Of an entry and its part.

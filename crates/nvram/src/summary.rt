@@ -3,7 +3,7 @@ use bank::StoreHeader;
 use records::Figures;
 ghost use mathlib.Core.Path.{_≡_};
 ghost use mathlib.Core.Bool.{cond};
-ghost use Rattle.nvram.specs.Soundness.{noSummary, unsound};
+ghost use Rattle.nvram.specs.Soundness.{noSummary, notSound};
 
 // A Valid bank's header and what its live records come to by section; zeros for any other slot, and no sums where none were to be counted.
 pub struct Summary {
@@ -45,7 +45,7 @@ pub struct Soundness {
 
 impl Soundness {
     pub fn unsound() -> Soundness
-        ensures { λ r. ⌜ r ≡ unsound ⌝ }
+        ensures { λ r. ⌜ r ≡ notSound ⌝ }
     {
         Soundness {
             sound: false,

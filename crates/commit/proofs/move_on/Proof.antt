@@ -2,7 +2,7 @@
 -- where the live records are over the size, and `does-move`.
 use native.Mathlib.Omega.{arith}
 use lib.ListN.{length-map}
-use Rattle.commit.specs.Applied.{requested}
+use Rattle.commit.specs.Applied.{eraseOf}
 use Rattle.commit.proofs.CommitLaws.{size-high, quiet, wrote}
 use Rattle.commit.proofs.MovingLaws.{Moving, some-bank, next-in, movable, may-raise, total-fits, MoveLeft, new-in, new-within, does-12, does-move}
 use Rattle.commit.proofs.move_on.Statement.{statement}
@@ -19,13 +19,13 @@ at-hand c =
       to-is = p .3;
     }
 
-left : (c : tie.After-moved) → MoveLeft (at-hand (c .before .before .before .before .before .before .before .before)) (c .before .before .before .move-bank .result) (c .before .before .before .move-bank .last .0) (requested (c .before .before .before .before .before .before .request .result)) (c .moved .result)
+left : (c : tie.After-moved) → MoveLeft (at-hand (c .before .before .before .before .before .before .before .before)) (c .before .before .before .move-bank .result) (c .before .before .before .move-bank .last .0) (eraseOf (c .before .before .before .before .before .before .request .result)) (c .moved .result)
 left c =
     record {
       header = c .before .before .before .before .raised .result;
       header-raised = c .before .before .before .before .raised .ensures;
-      carried = c .before .before .before .move-bank .ensures;
-      requested = c .before .before .before .before .before .before .request .ensures;
+      copied = c .before .before .before .move-bank .ensures;
+      erase-is = c .before .before .before .before .before .before .request .ensures;
       state = c .moved .ensures;
     }
 

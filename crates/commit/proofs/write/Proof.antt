@@ -1,8 +1,8 @@
--- `write`: the output's front is the bank's bytes (`written`); the rest of the contract is what is returned.
+-- `write`: the output's front is the bank's bytes (`front-written`); the rest of the contract is what is returned.
 use Prim.Native.Nat.{_*_}
 use mathlib.Core.Path.{refl}
 use native.Mathlib.Omega.{arith}
-use Rattle.commit.proofs.PieceLaws.{written}
+use Rattle.commit.proofs.PieceLaws.{front-written}
 use Rattle.commit.proofs.write.Statement.{statement}
 use Rattle.commit.proofs.write.Tie as tie
 use borrow.Author.Needs.{needs}
@@ -35,7 +35,7 @@ same-length : tie.Need-same-length
 same-length c = search needs
 
 returns : tie.Need-returns
-returns c = let a = c .before .before .before .before .before .before .before .before .args in let p = c .before .before .before .before .before .before .before .before .pre in (refl, refl, refl, written (a .state .active * 131072) (a .size) (a .work .now) (a .output .now) _ (omega (arith, p)) (omega (arith, p)) (c .before .before .copy .ensures))
+returns c = let a = c .before .before .before .before .before .before .before .before .args in let p = c .before .before .before .before .before .before .before .before .pre in (refl, refl, refl, front-written (a .state .active * 131072) (a .size) (a .work .now) (a .output .now) _ (omega (arith, p)) (omega (arith, p)) (c .before .before .copy .ensures))
 
 pub write-spec : {M : Type 1} → statement M
 write-spec =

@@ -1,4 +1,4 @@
--- `move_bank`: the header in the part (`headed`), the live records behind it, for which `carriable` gives what `copy_all_live` requires, and 0xFF to
+-- `move_bank`: the header in the part (`headed`), the live records behind it, for which `copyable` gives what `copy_all_live` requires, and 0xFF to
 -- the part's end: `moved`. The records end within the part (`within`).
 use Prim.Native.Nat.{_+_, _-_, _≤_}
 use mathlib.Core.Path.{_≡_, refl}
@@ -8,7 +8,7 @@ use native.Mathlib.Omega.{arith}
 use borrow.Author.Needs.{needs}
 use Rattle.buffers.specs.Bytes.{over}
 use Rattle.bank.specs.Header.{headerBytes}
-use Rattle.moving.proofs.MoveLaws.{headed, carriable, within, moved}
+use Rattle.moving.proofs.MoveLaws.{headed, copyable, within, moved}
 use Rattle.moving.proofs.move_bank.Statement.{statement}
 use Rattle.moving.proofs.move_bank.Tie as tie
 
@@ -42,7 +42,7 @@ add-copy-all-live : tie.Need-add-copy-all-live
 add-copy-all-live c = search needs
 
 copy-all-live-requires : tie.Need-copy-all-live-requires
-copy-all-live-requires c κs = carriable (c .before .before .before .before .before .before .before .before .pre) (c .before .before .before .before .before .before .before .before .args .header) _ (head-is (c .before .before .before))
+copy-all-live-requires c κs = copyable (c .before .before .before .before .before .before .before .before .pre) (c .before .before .before .before .before .before .before .before .args .header) _ (head-is (c .before .before .before))
 
 add-e : tie.Need-add-e
 add-e c = search needs

@@ -1,5 +1,5 @@
 -- `check_bank`: its six tests in the order of `viewHead`, each exit by the law of that test (`bank-reserved` to `bank-rest`); then `check_records`
--- (`bank-records`, `checked-slot`).
+-- (`bank-records`), whose answer gets the header (`with_header`).
 use native.Mathlib.Omega.{arith}
 use mathlib.Core.Path.{_≡_, sym, ap, _∙_}
 use mathlib.Core.Bool.{true, false}

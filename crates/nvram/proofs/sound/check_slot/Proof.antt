@@ -1,4 +1,4 @@
--- `check_slot`: by the kind, `slot-empty` and `slot-invalid`; a Valid one by its head (`slot-head`), of which a fault is unsound (`checked-none`).
+-- `check_slot`: by the kind, `slot-empty` and `slot-invalid`; a Valid one by its head (`slot-head`), of which a fault is unsound (`soundness-none`).
 use mathlib.Core.Path.{sym, ap, _∙_}
 use borrow.Author.Needs.{needs}
 use Rattle.nvram.specs.Part.{viewHead}

@@ -1,4 +1,4 @@
--- `check_slots`: the check of all slots is that of those from i on with the figures so far (`walkFrom`); `walk-start` and `walk-holds` are start and
+-- `check_slots`: the check of all slots is that of those from i on with the summary so far (`walkFrom`); `walk-start` and `walk-holds` are start and
 -- turn, `walk-fails`, `walk-unfree` and `walk-free` the exits.
 use borrow.Author.Needs.{needs}
 use native.Mathlib.Omega.{arith}
