@@ -1,5 +1,5 @@
 pub mod KeyLaws
-pub mod RowLaws
+pub mod RecordLoop
 pub mod BankLaws
 pub mod FitLaws
 pub mod ListingLaws

@@ -1,4 +1,4 @@
-// The store's calls. The state travels as bytes, of which specs/State has the layout.
+// The store's calls. The state travels as bytes, of which `state_bytes` has the layout.
 use bank::VarType;
 use commit::Applied;
 use commit::Erase;

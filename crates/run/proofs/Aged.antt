@@ -117,20 +117,20 @@ ands-aged m n (next {r = r} {n = s} {rs = rs} {ss = ss} f a) b h =
     ap₂ ands p q ∙ ands-older r s u v f ∙ ap (λ (z : List ℕ). y ++ z) (ands-aged m n a (bytes-right y v (subst Bytes q b)) l) ∙ sym q
 
 -- a bank that is written over one that has aged into it
-module _ (k : Bank) (rows : List Record) (fh : FineHeader (k .header)) (fr : FineRecords (k .records)) (fo : FineRecords rows)
-    (fits : total k ≤ k .header .size) (fitted : total (withRecords k rows) ≤ k .header .size) where
-  pub ands-output : Aged rows (k .records) → ands (output (withRecords k rows)) (output k) ≡ output k
+module _ (k : Bank) (older : List Record) (fh : FineHeader (k .header)) (fr : FineRecords (k .records)) (fo : FineRecords older)
+    (fits : total k ≤ k .header .size) (fitted : total (withRecords k older) ≤ k .header .size) where
+  pub ands-output : Aged older (k .records) → ands (output (withRecords k older)) (output k) ≡ output k
   unfolding output padded bankBytes
   ands-output a =
       let h = headerBytes (k .header) in
-      let x = recordsBytes rows in
+      let x = recordsBytes older in
       let y = recordsBytes (k .records) in
       let m = k .header .size - length (h ++ x) in
       let n = k .header .size - length (h ++ y) in
       let p : (h ++ x) ++ blanks m ≡ h ++ (x ++ blanks m) = append-assoc h x (blanks m) in
       let q : (h ++ y) ++ blanks n ≡ h ++ (y ++ blanks n) = append-assoc h y (blanks n) in
       let l : length ((h ++ x) ++ blanks m) ≡ length ((h ++ y) ++ blanks n) =
-      length-output (withRecords k rows) fo fitted ∙ sym (length-output k fr fits) in
+      length-output (withRecords k older) fo fitted ∙ sym (length-output k fr fits) in
       let b : Bytes ((h ++ y) ++ blanks n) = bytes-output k fh fr in
       ap₂ ands p q ∙ ands-same h (x ++ blanks m) (y ++ blanks n)
       ∙ ap (λ (z : List ℕ). h ++ z)

@@ -27,7 +27,7 @@ use Rattle.run.proofs.EachLaws.{each-first, each-rest}
 use Rattle.run.proofs.FlashLaws.{bank-long}
 use Rattle.run.proofs.ChoiceLaws.{slot-at, active-most}
 use Rattle.run.proofs.Aged.{aged-edited}
-use Rattle.run.proofs.Invariant.{Base, Fixed, Current, enough, active-stored, move-current, write-base, write-current, edit-base, edit-fixed}
+use Rattle.run.proofs.Invariant.{Base, InFlash, UpToDate, enough, active-stored, move-current, write-base, write-current, edit-base, edit-fixed}
 use Rattle.run.proofs.Start.{Starts, starts}
 
 -- one call
@@ -35,7 +35,7 @@ use Rattle.run.proofs.Start.{Starts, starts}
 -- the book and the flash, m erase requests after the opening of a book
 pub record State (opened : Book) (flash : List ℕ) (b : Book) (m : ℕ) : Type 0 where
   pub base : Base flash b
-  pub fixed : 0 < m → Fixed flash b
+  pub fixed : 0 < m → InFlash flash b
   pub banks : b .n ≡ opened .n
   pub size : activeSize b ≡ activeSize opened
 
@@ -54,10 +54,10 @@ module _ (b₀ : Book) (f : List ℕ) (b : Book) (m : ℕ) (s : State b₀ f b m
   stepped c o fine h (refuses k n) = still (refusal c k) [] (idle-refusal c k (n .not-0))
   stepped c o fine h (reads a x r) = still a x (idle-read c a r)
   stepped c o fine h (edits e d) =
-      let rows = editedBy e (d .bank .records) in
+      let newer = editedBy e (d .bank .records) in
       record {
-        base = edit-base f b (s .base) (d .bank) (d .was) rows fine;
-        fixed = λ p. edit-fixed f b (s .base) (d .bank) (d .was) rows fine (aged-edited e (d .bank .records)) (s .fixed (omega arith));
+        base = edit-base f b (s .base) (d .bank) (d .was) newer fine;
+        fixed = λ p. edit-fixed f b (s .base) (d .bank) (d .was) newer fine (aged-edited e (d .bank .records)) (s .fixed (omega arith));
         banks = s .banks;
         size = same-size (d .bank) _ (b .active) (d .was) (s .base .fine .inside) refl;
       }
@@ -78,7 +78,7 @@ module _ (b₀ : Book) (f : List ℕ) (b : Book) (m : ℕ) (s : State b₀ f b m
       → o .answer ≡ committed 0 e offset long
       → 0 < m + requested (erase (o .answer))
       → Did b c o
-      → Current (carriedOut (o .answer) (o .out) f) (o .after)
+      → UpToDate (carriedOut (o .answer) (o .out) f) (o .after)
   committed-current c o e offset long fine h a p (refuses k n) = absurd (no-commit (idle-refusal c k (n .not-0)) a)
   committed-current c o e offset long fine h a p (reads y x r) = absurd (no-commit (idle-read c y r) a)
   committed-current c o e offset long fine h a p (edits x d) = absurd (no-commit tt a)
@@ -112,7 +112,7 @@ module _ (b₀ : Book) (f : List ℕ) (b : Book) (m : ℕ) (s : State b₀ f b m
   turned =
       rw (a .answer, a .out, a .after) (stepped b₀ f b m s (p .event .call) (step b (p .event .call)) after-fine (a .follows) (did b (p .event .call)))
 
-  pub current-at : (e : Option ℕ) (offset long : ℕ) → p .event .answer ≡ committed 0 e offset long → 0 < m + asks p → Current (flashOf f p) (p .after)
+  pub current-at : (e : Option ℕ) (offset long : ℕ) → p .event .answer ≡ committed 0 e offset long → 0 < m + asks p → UpToDate (flashOf f p) (p .after)
   current-at e offset long q h =
       rw (a .answer, a .out, a .after)
       (committed-current b₀ f b m s (p .event .call) (step b (p .event .call)) e offset long after-fine (a .follows) (sym (a .answer) ∙ q)

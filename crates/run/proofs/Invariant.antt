@@ -44,29 +44,29 @@ pub record Base (flash : List ℕ) (b : Book) : Type 0 where
       → k′ .header .generation ≤ k .header .generation
 
 -- from the first move on: the active bank's bytes are those of its header and of records that have aged into the book's
-pub record Known (flash : List ℕ) (b : Book) (bank : Bank) : Type 0 where
+pub record ActiveInFlash (flash : List ℕ) (b : Book) (bank : Bank) : Type 0 where
   pub full : bank .usable ≡ bank .header .size
   pub positive : 0 < bank .header .generation
-  pub rows : List Record
-  pub rows-fine : FineRecords rows
-  pub rows-fit : total (withRecords bank rows) ≤ bank .header .size
-  pub there : bankIn flash (b .active) ≡ padded bankSize (bankBytes (withRecords bank rows))
-  pub aged : Aged rows (bank .records)
+  pub flashed : List Record
+  pub flashed-fine : FineRecords flashed
+  pub flashed-fit : total (withRecords bank flashed) ≤ bank .header .size
+  pub there : bankIn flash (b .active) ≡ padded bankSize (bankBytes (withRecords bank flashed))
+  pub aged : Aged flashed (bank .records)
   pub under : Under flash (b .n) (b .active) (bank .header .generation)
 
-pub record Fixed (flash : List ℕ) (b : Book) : Type 0 where
+pub record InFlash (flash : List ℕ) (b : Book) : Type 0 where
   pub bank : Bank
   pub at : activeSlot b ≡ valid bank
-  pub known : Known flash b bank
+  pub known : ActiveInFlash flash b bank
 
-known-of : {flash : List ℕ} {b : Book} (x : Fixed flash b) (k : Bank) → activeSlot b ≡ valid k → Known flash b k
-known-of {flash = flash} {b = b} x k e = let q : x .bank ≡ k = cc (x .at, e) in subst (Known flash b) q (x .known)
+known-of : {flash : List ℕ} {b : Book} (x : InFlash flash b) (k : Bank) → activeSlot b ≡ valid k → ActiveInFlash flash b k
+known-of {flash = flash} {b = b} x k e = let q : x .bank ≡ k = cc (x .at, e) in subst (ActiveInFlash flash b) q (x .known)
 
 -- after an accepted commit: those records are the book's
-pub record Current (flash : List ℕ) (b : Book) : Type 0 where
+pub record UpToDate (flash : List ℕ) (b : Book) : Type 0 where
   pub base : Base flash b
-  pub fixed : Fixed flash b
-  pub now : fixed .known .rows ≡ fixed .bank .records
+  pub fixed : InFlash flash b
+  pub now : fixed .known .flashed ≡ fixed .bank .records
 
 pub enough : (flash : List ℕ) (n : ℕ) → n ≡ banksOf flash → n * bankSize ≤ length flash
 enough flash n e =
@@ -127,7 +127,7 @@ module _ (f f′ : List ℕ) (b : Book) (i : ℕ) (k : Bank) (x : List ℕ) (bas
 module _ (f f′ : List ℕ) (b : Book) (i : ℕ) (k : Bank) (base : Base f b) (inside : i < b .n) (fine : FineBook (withBank b i k))
     (r : Replaced f f′ i (padded bankSize (bankBytes k))) (full : k .usable ≡ k .header .size) (fits : total k ≤ k .header .size)
     (positive : 0 < k .header .generation) (under : Under f (b .n) i (k .header .generation)) where
-  current : Current f′ (withBank b i k)
+  current : UpToDate f′ (withBank b i k)
   current =
       let w = k-fine f f′ b i k _ base inside fine r in
       let back = padded-back k bankSize (w .header-fine) (w .records-fine) fits (small-size k w) in
@@ -143,9 +143,9 @@ module _ (f f′ : List ℕ) (b : Book) (i : ℕ) (k : Bank) (base : Base f b) (
           known = record {
             full = full;
             positive = positive;
-            rows = k .records;
-            rows-fine = w .records-fine;
-            rows-fit = fits;
+            flashed = k .records;
+            flashed-fine = w .records-fine;
+            flashed-fit = fits;
             there = r .here;
             aged = aged-refl (k .records);
             under = λ j l ne k′ e. under j l ne k′ (sym (ap readBank (r .other j ne)) ∙ e);
@@ -206,7 +206,7 @@ module _ (f : List ℕ) (b : Book) (base : Base f b) where
           (ap (λ (y : List ℕ). ands y x) (take-replicate (length x) bankSize 255 fits-bank) ∙ ands-ff x (bytes-output (moved k) (v .header-fine) (v .records-fine)))
           (drop-replicate (length x) bankSize 255 fits-bank)
 
-      pub move-current : Current (written (nextBank b * bankSize) (output (moved k)) g) (movedBook b k)
+      pub move-current : UpToDate (written (nextBank b * bankSize) (output (moved k)) g) (movedBook b k)
       move-current =
           current f (written (nextBank b * bankSize) (output (moved k)) g) b (nextBank b) (moved k) base (next-inside b (base .fine)) fine move-placed refl new-fits
           (omega arith) (λ j l ne k′ q. omega (arith, base .low k e j l k′ q))
@@ -251,12 +251,12 @@ module _ (f : List ℕ) (b : Book) (base : Base f b) where
           (λ j l ne k′ q. base .low k e j l k′ q))
 
       -- after the first move the bytes are known
-      module _ (x : Known f b k) where
+      module _ (x : ActiveInFlash f b k) where
         abbrev old : Bank
-        old = withRecords k (x .rows)
+        old = withRecords k (x .flashed)
 
         old-long : length (bankBytes old) ≤ length (output k)
-        old-long = omega (arith, length-bank old (x .rows-fine), x .rows-fit, length-output k (w .records-fine) in-size)
+        old-long = omega (arith, length-bank old (x .flashed-fine), x .flashed-fit, length-output k (w .records-fine) in-size)
 
         write-known : Replaced f new (b .active) (padded bankSize (bankBytes k))
         unfolding output
@@ -265,29 +265,29 @@ module _ (f : List ℕ) (b : Book) (base : Base f b) where
             (subst (Replaced f f (b .active)) (x .there) (untouched f (b .active) (base .bytes)))
             (ap (λ (y : List ℕ). ands y (output k)) (take-padded (bankBytes old) (length (output k)) bankSize old-long fits-bank)
             ∙ ap (λ (m : ℕ). ands (padded m (bankBytes old)) (output k)) (length-output k (w .records-fine) in-size)
-            ∙ ands-output k (x .rows) (w .header-fine) (w .records-fine) (x .rows-fine) in-size (x .rows-fit) (x .aged))
+            ∙ ands-output k (x .flashed) (w .header-fine) (w .records-fine) (x .flashed-fine) in-size (x .flashed-fit) (x .aged))
             (drop-padded (bankBytes old) (length (output k)) bankSize old-long fits-bank)
 
-        write-now : Current new b
+        write-now : UpToDate new b
         write-now =
-            subst (Current new) with-active
+            subst (UpToDate new) with-active
             (current f new b (b .active) k base (base .fine .inside) with-fine write-known (x .full) in-size (x .positive) (x .under))
 
-      pub write-current : Fixed f b → Current new b
+      pub write-current : InFlash f b → UpToDate new b
       write-current x = write-now (known-of x k e)
 
     -- an edit
 
-    module _ (rows : List Record) (fine : FineBook (withActive b (withRecords k rows))) where
+    module _ (newer : List Record) (fine : FineBook (withActive b (withRecords k newer))) where
       abbrev edited : Bank
-      edited = withRecords k rows
+      edited = withRecords k newer
 
       pub edit-base : Base f (withActive b edited)
       edit-base =
           replaced-base f f b (b .active) edited (bankIn f (b .active)) base (base .fine .inside) fine (untouched f (b .active) (base .bytes))
           (λ k′ q. base .low k e (b .active) (base .fine .inside) k′ q) (λ j l ne k′ q. base .low k e j l k′ q)
 
-      pub edit-fixed : Aged (k .records) rows → Fixed f b → Fixed f (withActive b edited)
+      pub edit-fixed : Aged (k .records) newer → InFlash f b → InFlash f (withActive b edited)
       edit-fixed a x =
           let y = known-of x k e in
           record {
@@ -296,9 +296,9 @@ module _ (f : List ℕ) (b : Book) (base : Base f b) where
             known = record {
               full = y .full;
               positive = y .positive;
-              rows = y .rows;
-              rows-fine = y .rows-fine;
-              rows-fit = y .rows-fit;
+              flashed = y .flashed;
+              flashed-fine = y .flashed-fine;
+              flashed-fit = y .flashed-fit;
               there = y .there;
               aged = aged-trans (y .aged) a;
               under = y .under;

@@ -28,7 +28,7 @@ use Rattle.nvram.proofs.CallLaws.{by-valid}
 use Rattle.run.specs.Run.{openedBook, Page}
 use Rattle.run.specs.Demand.{Reopens}
 use Rattle.run.proofs.ChoiceLaws.{slot-at, any-valid, valid-within, chooses}
-use Rattle.run.proofs.Invariant.{Fixed, Current, enough, slot-fine}
+use Rattle.run.proofs.Invariant.{InFlash, UpToDate, enough, slot-fine}
 
 -- two books with the same active bank look up alike
 module _ (b b′ : Book) (k k′ : Bank) (e : activeSlot b ≡ valid k) (e′ : activeSlot b′ ≡ valid k′) (rs : k .records ≡ k′ .records) where
@@ -59,8 +59,8 @@ begun-view : (o : Opened) (work : List ℕ) (b : Book) → FineBook b → o ≡ 
 unfolding begun
 begun-view o work b f e = ap (λ (x : Opened). view (begun x work .state) (begun x work .work)) e ∙ view-lay b 0 work f
 
-module _ (f : List ℕ) (b : Book) (s : Current f b) where
-  abbrev x : Fixed f b
+module _ (f : List ℕ) (b : Book) (s : UpToDate f b) where
+  abbrev x : InFlash f b
   x = s .fixed
 
   abbrev k : Bank
@@ -76,7 +76,7 @@ module _ (f : List ℕ) (b : Book) (s : Current f b) where
   reads =
       let w = slot-fine b (b .active) k (s .base .fine) (x .at) in
       ap readBank (x .known .there ∙ ap (λ (rs : List Record). padded bankSize (bankBytes (withRecords k rs))) (s .now))
-      ∙ padded-back k bankSize (w .header-fine) (w .records-fine) (subst (λ (rs : List Record). total (withRecords k rs) ≤ k .header .size) (s .now) (x .known .rows-fit))
+      ∙ padded-back k bankSize (w .header-fine) (w .records-fine) (subst (λ (rs : List Record). total (withRecords k rs) ≤ k .header .size) (s .now) (x .known .flashed-fit))
       (omega (arith, bank-size, w .header-fine .size-high))
 
   within : b .active < banksOf f
@@ -111,7 +111,7 @@ module _ (f : List ℕ) (b : Book) (s : Current f b) where
   holds work long =
       begun-view (opening f (length work)) work book (open-fine f (length work) book (s .base .bytes) (accepts (length work) long)) (accepts (length work) long)
 
-pub reopens : (f : List ℕ) (p : Page) → Current f (p .after) → view (p .event .state) (p .event .work) ≡ some (p .after) → Reopens f p
+pub reopens : (f : List ℕ) (p : Page) → UpToDate f (p .after) → view (p .event .state) (p .event .work) ≡ some (p .after) → Reopens f p
 reopens f p s v =
     let b = p .after in
     let x = s .fixed in

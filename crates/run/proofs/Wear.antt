@@ -1,5 +1,5 @@
 -- The wear bound (01, 'A run, its book and the flash'), with L anything that the live records at commits stay within. From one move to the next to
--- the same bank there are n moves or more (`whole-turns`), each drops the total by D or more, and inserts have brought that (`Went`, `two-moves`).
+-- the same bank there are n moves or more (`whole-turns`), each drops the total by D or more, and inserts have brought that (`MovesBetween`, `two-moves`).
 use Prim.Native.Nat.{ℕ, zero, suc, _+_, _*_, _/_, _≤_, _<_}
 use native.Mathlib.Omega.{arith}
 use native.Mathlib.Nat.{div-add-mod', mul-le-mul-right, le-trans}
@@ -48,7 +48,7 @@ record Good (S : ℕ) (b : Book) : Type 0 where
   usable : bank .usable ≡ S
 
 -- m moves from b to b′, while `bytes` bytes are inserted: D is a move's least drop of the total
-record Went (S D : ℕ) (b b′ : Book) (bytes : ℕ) : Type 0 where
+record MovesBetween (S D : ℕ) (b b′ : Book) (bytes : ℕ) : Type 0 where
   good : Good S b′
   banks : b′ .n ≡ b .n
   m : ℕ
@@ -56,7 +56,7 @@ record Went (S D : ℕ) (b b′ : Book) (bytes : ℕ) : Type 0 where
   round : b′ .active + turns * b .n ≡ b .active + m
   falls : slotTotal (activeSlot b′) + m * D ≤ slotTotal (activeSlot b) + bytes
 
-went-nowhere : (S D : ℕ) (b : Book) (bytes : ℕ) → Good S b → Went S D b b bytes
+went-nowhere : (S D : ℕ) (b : Book) (bytes : ℕ) → Good S b → MovesBetween S D b b bytes
 went-nowhere S D b bytes g = record { good = g; banks = refl; m = 0; turns = 0; round = omega arith; falls = omega arith }
 
 good-kept : (S : ℕ) (b : Book) → FineBook b → (i : ℕ) → i < b .n → (k : Bank) → k .header .size ≡ S → k .usable ≡ S → Good S (withBank b i k)
@@ -69,7 +69,7 @@ module _ (S : ℕ) (b : Book) (f : FineBook b) (k : Bank) (g : Good S b) (e : ac
   its-usable : k .usable ≡ S
   its-usable = let q : g .bank ≡ k = cc (g .at, e) in cc (q, g .usable)
 
-  went-edit : (D : ℕ) (rs : List Record) (bytes : ℕ) → sizes rs ≡ sizes (k .records) + bytes → Went S D b (withActive b (withRecords k rs)) bytes
+  went-edit : (D : ℕ) (rs : List Record) (bytes : ℕ) → sizes rs ≡ sizes (k .records) + bytes → MovesBetween S D b (withActive b (withRecords k rs)) bytes
   unfolding slotTotal total
   went-edit D rs bytes h =
       record {
@@ -81,7 +81,7 @@ module _ (S : ℕ) (b : Book) (f : FineBook b) (k : Bank) (g : Good S b) (e : ac
         falls = rw (active-stored b f (b .active) (f .inside) (withRecords k rs), e) (omega arith);
       }
 
-  went-move : (L D : ℕ) → D + L ≤ suc S → (bytes : ℕ) → k .usable < total k → liveTotal k ≤ L → Went S D b (movedBook b k) bytes
+  went-move : (L D : ℕ) → D + L ≤ suc S → (bytes : ℕ) → k .usable < total k → liveTotal k ≤ L → MovesBetween S D b (movedBook b k) bytes
   unfolding slotTotal total liveTotal
   went-move L D d bytes due l =
       record {
@@ -94,7 +94,7 @@ module _ (S : ℕ) (b : Book) (f : FineBook b) (k : Bank) (g : Good S b) (e : ac
       }
 
 one-call : (S L D : ℕ) → D + L ≤ suc S → (b : Book) (c : Call) (o : Outcome) → FineBook b → Good S b → Follows c (o .answer) → liveAt b c ≤ L → Did b c o
-    → Went S D b (o .after) (added c (number (o .answer)))
+    → MovesBetween S D b (o .after) (added c (number (o .answer)))
 one-call S L D d b c o f g h l (refuses k n) = went-nowhere S D b _ g
 one-call S L D d b c o f g h l (reads a x r) = went-nowhere S D b _ g
 one-call S L D d b c o f g h l (edits e x) = went-edit S b f (x .bank) g (x .was) D (editedBy e (x .bank .records)) _ (sizes-edited e (x .bank .records))
@@ -103,7 +103,7 @@ one-call S L D d b c o f g h l (moves room x _) =
     went-move S b f (x .bank) g (x .was) L D d _ (x .due) (subst (λ (s : Slot). slotLive s ≤ L) (x .was) l)
 one-call S L D d b c o f g h l (overflows room x _) = absurd (h refl)
 
-joined : (S D : ℕ) (b b′ b″ : Book) (x y : ℕ) → Went S D b b′ x → Went S D b′ b″ y → Went S D b b″ (x + y)
+joined : (S D : ℕ) (b b′ b″ : Book) (x y : ℕ) → MovesBetween S D b b′ x → MovesBetween S D b′ b″ y → MovesBetween S D b b″ (x + y)
 joined S D b b′ b″ x y u v =
     record {
       good = v .good;
@@ -116,13 +116,13 @@ joined S D b b′ b″ x y u v =
 
 -- the same of a page
 one-page : (S L D : ℕ) → D + L ≤ suc S → (b : Book) (p : Page) → FineBook b → Good S b → At b p → liveAt (p .before) (p .event .call) ≤ L
-    → Went S D b (p .after) (added (p .event .call) (number (p .event .answer)))
+    → MovesBetween S D b (p .after) (added (p .event .call) (number (p .event .answer)))
 one-page S L D d b p f g a l =
     let c = p .event .call in
     rw (a .answer, a .after) (one-call S L D d b c (step b c) f g (a .follows) (subst (λ (x : Book). liveAt x c ≤ L) (a .before) l) (did b c))
 
 went : (S L D : ℕ) → D + L ≤ suc S → (b₀ : Book) (f : List ℕ) (b : Book) (m : ℕ) (ps qs : List Page) → Along b₀ f b m (ps ++ qs) → Good S b → Within L ps
-    → Went S D b (endOf b ps) (insertedBytes ps)
+    → MovesBetween S D b (endOf b ps) (insertedBytes ps)
 unfolding endOf insertedBytes
 went S L D d b₀ f b m [] qs a g l = went-nowhere S D b 0 g
 went S L D d b₀ f b m (p ∷ ps) qs a g l =
@@ -167,7 +167,7 @@ whole-turns n m (suc t) h = omega arith
 
 -- from the move of b, with bank k, to b₂, where a move to the same bank is due
 two-moves : (b : Book) → FineBook b → (k : Bank) (b₁ b₂ : Book) (k₂ : Bank) (D L bytes : ℕ) → b₁ ≡ movedBook b k
-    → D + L ≤ suc (k .header .size) → liveTotal k ≤ L → FineBook b₂ → Went (k .header .size) D b₁ b₂ bytes
+    → D + L ≤ suc (k .header .size) → liveTotal k ≤ L → FineBook b₂ → MovesBetween (k .header .size) D b₁ b₂ bytes
     → activeSlot b₂ ≡ valid k₂ → k₂ .usable < total k₂ → nextBank b₂ ≡ nextBank b
     → b .n * D ≤ bytes
 unfolding slotTotal total liveTotal

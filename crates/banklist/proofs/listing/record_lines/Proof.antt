@@ -5,7 +5,7 @@ use native.Mathlib.Omega.{arith}
 use Prim.Native.Nat.{_-_}
 use Rattle.bank.specs.Bank.{bankSize}
 use Rattle.text.proofs.PutLaws.{length-put}
-use Rattle.banklist.proofs.RowLaws.{ToList, left-all, left-sized, left-room, left-turn, left-none}
+use Rattle.banklist.proofs.RecordLoop.{ToList, left-all, left-sized, left-room, left-turn, left-none}
 use Rattle.banklist.proofs.listing.record_lines.Statement.{statement}
 use Rattle.banklist.proofs.listing.record_lines.Tie as tie
 

@@ -1,4 +1,4 @@
--- The loop over a bank's records: they stand in its bytes as the walk found them (`walk-rows`); `ToList` says that the lines of those before an
+-- The loop over a bank's records: they stand in its bytes as the walk found them (`walk-stand`); `ToList` says that the lines of those before an
 -- offset are put and those from it on are left, with laws for start, turn and end (`left-all`, `left-turn`, `left-none`).
 use Prim.Native.Nat.{ℕ, _+_, _-_, _≤_, _<_}
 use mathlib.Core.Path.{_≡_, refl, sym, ap, _∙_, subst}
@@ -22,42 +22,42 @@ use Rattle.text.proofs.PutLaws.{put-none, join, front, back}
 use Rattle.banklist.specs.Listing.{fieldsLine, recordLine, recordLines}
 
 -- the records rs stand in s from one offset up to another
-abbrev pub Rows : List ℕ → ℕ → ℕ → List Record → Type 0
-Rows s at end [] = at ≡ end
-Rows s at end (r ∷ rs) = Stands (drop at s) r × Rows s (at + sizeOf r) end rs
+abbrev pub RecordsStand : List ℕ → ℕ → ℕ → List Record → Type 0
+RecordsStand s at end [] = at ≡ end
+RecordsStand s at end (r ∷ rs) = Stands (drop at s) r × RecordsStand s (at + sizeOf r) end rs
 
-walk-rows : (s : List ℕ) (size at : ℕ) → Rows s at (walkFrom s size at .at) (walkFrom s size at .records)
-walk-rows s size = walk-ind s size (λ at w. Rows s at (w .at) (w .records)) (λ at l. refl) (λ at c l e. refl) (λ at r l k ih. (k, ih))
+walk-stand : (s : List ℕ) (size at : ℕ) → RecordsStand s at (walkFrom s size at .at) (walkFrom s size at .records)
+walk-stand s size = walk-ind s size (λ at w. RecordsStand s at (w .at) (w .records)) (λ at l. refl) (λ at c l e. refl) (λ at r l k ih. (k, ih))
 
-rows-low : (s : List ℕ) (rs : List Record) (at end : ℕ) → Rows s at end rs → at ≤ end
-rows-low s [] at end k = omega arith
-rows-low s (r ∷ rs) at end k = omega (arith, rows-low s rs (at + sizeOf r) end (k .1))
+stand-low : (s : List ℕ) (rs : List Record) (at end : ℕ) → RecordsStand s at end rs → at ≤ end
+stand-low s [] at end k = omega arith
+stand-low s (r ∷ rs) at end k = omega (arith, stand-low s rs (at + sizeOf r) end (k .1))
 
-rows-high : (s : List ℕ) (rs : List Record) (at end : ℕ) → at ≤ length s → Rows s at end rs → end ≤ length s
-rows-high s [] at end h k = omega arith
-rows-high s (r ∷ rs) at end h k =
-    rows-high s rs (at + sizeOf r) end (omega (arith, stands-size (drop at s) r (k .0), k .0 .ends, length-drop at s)) (k .1)
+stand-high : (s : List ℕ) (rs : List Record) (at end : ℕ) → at ≤ length s → RecordsStand s at end rs → end ≤ length s
+stand-high s [] at end h k = omega arith
+stand-high s (r ∷ rs) at end h k =
+    stand-high s rs (at + sizeOf r) end (omega (arith, stands-size (drop at s) r (k .0), k .0 .ends, length-drop at s)) (k .1)
 
-rows-none : (s : List ℕ) (rs : List Record) (at end : ℕ) → Rows s at end rs → end ≤ at → rs ≡ []
+stand-none : (s : List ℕ) (rs : List Record) (at end : ℕ) → RecordsStand s at end rs → end ≤ at → rs ≡ []
 unfolding sizeOf
-rows-none s [] at end k l = refl
-rows-none s (r ∷ rs) at end k l = absurd (omega (arith, rows-low s rs (at + sizeOf r) end (k .1)))
+stand-none s [] at end k l = refl
+stand-none s (r ∷ rs) at end k l = absurd (omega (arith, stand-low s rs (at + sizeOf r) end (k .1)))
 
 -- the record that stands at an offset before the last
 record Next (s : List ℕ) (at end : ℕ) (rs : List Record) : Type 0 where
   rest : List Record
   is : rs ≡ recordOf (drop at s) ∷ rest
   stands : Stands (drop at s) (recordOf (drop at s))
-  rows : Rows s (at + sizeAt (drop at s)) end rest
+  stand : RecordsStand s (at + sizeAt (drop at s)) end rest
 
-rows-next : (s : List ℕ) (rs : List Record) (at end : ℕ) → Rows s at end rs → at < end → Next s at end rs
-rows-next s [] at end k h = absurd (omega arith)
-rows-next s (r ∷ rs) at end k h =
+stand-next : (s : List ℕ) (rs : List Record) (at end : ℕ) → RecordsStand s at end rs → at < end → Next s at end rs
+stand-next s [] at end k h = absurd (omega arith)
+stand-next s (r ∷ rs) at end k h =
     record {
       rest = rs;
       is = ap (λ (q : Record). q ∷ rs) (k .0 .is);
       stands = subst (Stands (drop at s)) (k .0 .is) (k .0);
-      rows = subst (λ (i : ℕ). Rows s (at + i) end rs) (stands-size (drop at s) r (k .0)) (k .1);
+      stand = subst (λ (i : ℕ). RecordsStand s (at + i) end rs) (stands-size (drop at s) r (k .0)) (k .1);
     }
 
 -- what the code knows of the record at an offset by its header
@@ -103,7 +103,7 @@ module _ (s : List ℕ) (at : ℕ) (k : Stands (drop at s) (recordOf (drop at s)
 pub record ToList (s out₀ : List ℕ) (from end : ℕ) (out : List ℕ) (p at index : ℕ) : Type 0 where
   pub lines : List ℕ
   pub todo : List Record
-  pub rows : Rows s at end todo
+  pub stand : RecordsStand s at end todo
   pub put : Put from p lines out₀ out
   pub room : Room p (recordLines index todo) out
   pub all : (b : Bank) → readBank s ≡ valid b → recordLines 0 (b .records) ≡ lines ++ recordLines index todo
@@ -118,26 +118,26 @@ left-all s out from end b l e t r =
     let c = came s b e in
     let w = walkFrom s (b .header .size) 24 in
     let q : w .at ≡ end = sym (t ∙ came-total s b c) in
-    let k : Rows s 24 end (b .records) =
-    subst (λ (rs : List Record). Rows s 24 end rs) (c .records)
-    (subst (λ (n : ℕ). Rows s 24 n (w .records)) q (walk-rows s (b .header .size) 24)) in
+    let k : RecordsStand s 24 end (b .records) =
+    subst (λ (rs : List Record). RecordsStand s 24 end rs) (c .records)
+    (subst (λ (n : ℕ). RecordsStand s 24 n (w .records)) q (walk-stand s (b .header .size) 24)) in
     record {
       lines = [];
       todo = b .records;
-      rows = k;
+      stand = k;
       put = put-none from out (omega (arith, r .fits));
       room = r;
       all = λ (d : Bank) f. let z : d ≡ b = cc in ap (λ (x : Bank). recordLines 0 (x .records)) z;
       counted = omega arith;
-      low = rows-low s (b .records) 24 end k;
-      high = rows-high s (b .records) 24 end l k;
+      low = stand-low s (b .records) 24 end k;
+      high = stand-high s (b .records) 24 end l k;
     }
 
 module _ {s out₀ out : List ℕ} {from end p at index : ℕ} (l : ToList s out₀ from end out p at index) where
   -- a turn, by what the code is told of the part from the offset on
   module _ (before : at < end) (h : VarHeader) (e : h ≡ parsedHeader (take (length s - at) (drop at s))) where
     next : Next s at end (l .todo)
-    next = rows-next s (l .todo) at end (l .rows) before
+    next = stand-next s (l .todo) at end (l .stand) before
 
     pub left-sized : HeaderAt s at h
     left-sized = sized s at (next .stands) h e
@@ -158,23 +158,23 @@ module _ {s out₀ out : List ℕ} {from end p at index : ℕ} (l : ToList s out
       left-turn m g a =
           let z = left-sized in
           let i : at + sizeAt (drop at s) ≡ at + m = omega arith in
-          let k : Rows s (at + m) end (next .rest) = rw i at (next .rows) in
+          let k : RecordsStand s (at + m) end (next .rest) = rw i at (next .stand) in
           let x = spelled s at index h n in
           record {
             lines = l .lines ++ x;
             todo = next .rest;
-            rows = k;
+            stand = k;
             put = join (l .put) a;
             room = back rest a (rw split at (l .room));
             all = λ (b : Bank) f. l .all b f ∙ ap (λ (y : List ℕ). l .lines ++ y) split ∙ sym (append-assoc (l .lines) x rest);
             counted = omega (arith, l .counted);
-            low = rows-low s (next .rest) (at + m) end k;
+            low = stand-low s (next .rest) (at + m) end k;
             high = l .high;
           }
 
   pub left-none : end ≤ at → (b : Bank) → readBank s ≡ valid b → Put from p (recordLines 0 (b .records)) out₀ out
   unfolding recordLines
   left-none h b e =
-      let z : recordLines index (l .todo) ≡ [] = ap (recordLines index) (rows-none s (l .todo) at end (l .rows) h) in
+      let z : recordLines index (l .todo) ≡ [] = ap (recordLines index) (stand-none s (l .todo) at end (l .stand) h) in
       let q : recordLines 0 (b .records) ≡ l .lines = l .all b e ∙ rw z (append-nil (l .lines)) in
       rw q (l .put)
