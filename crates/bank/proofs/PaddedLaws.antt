@@ -1,12 +1,17 @@
--- Bytes padded with 0xFF to a length: up to a shorter one they are padded to that (`take-padded`), and behind it all is 0xFF (`drop-padded`).
+-- Bytes padded with 0xFF to a length: up to a shorter one they are padded to that (`take-padded`), and behind it all is 0xFF (`drop-padded`); and a
+-- bank's part as header, records and 0xFF (`part-bytes`).
 use Prim.Native.Nat.{ℕ, _+_, _-_, _≤_}
 use native.Mathlib.Omega.{arith}
 use mathlib.Core.Path.{_≡_, sym, ap, _∙_}
 use mathlib.Core.List.{List, _++_, append-assoc}
 use lib.ListN.{length, take, drop, replicate, length-replicate, replicate-append-replicate}
 use lib.Seq.{take-at, drop-at}
-use Rattle.bank.specs.Bank.{padded}
-use Rattle.bank.proofs.LengthLaws.{length-padded}
+use Rattle.bank.specs.Header.{headerBytes}
+use Rattle.bank.specs.Record.{sizes, recordsBytes}
+use Rattle.bank.specs.Bank.{Bank, valid, padded, bankBytes, partOf}
+use Rattle.bank.specs.Totals.{total}
+use Rattle.bank.specs.WellFormed.{FineRecords}
+use Rattle.bank.proofs.LengthLaws.{length-bank, length-padded}
 
 -- 0xFF, n times
 abbrev pub blanks : ℕ → List ℕ
@@ -33,3 +38,11 @@ module _ (x : List ℕ) (m n : ℕ) (h : length x ≤ m) (k : m ≤ n) where
 
   pub drop-padded : drop m (padded n x) ≡ blanks (n - m)
   drop-padded = ap (drop m) padded-more ∙ drop-at (padded m x) (blanks (n - m)) m (length-padded m x h)
+
+-- a Valid slot's part: header, records, 0xFF
+pub part-bytes : (n : ℕ) (k : Bank) → FineRecords (k .records)
+    → partOf n (valid k) ≡ headerBytes (k .header) ++ (recordsBytes (k .records) ++ blanks (n - (24 + sizes (k .records))))
+unfolding partOf padded bankBytes total
+part-bytes n k f =
+    ap (λ (i : ℕ). (headerBytes (k .header) ++ recordsBytes (k .records)) ++ blanks (n - i)) (length-bank k f)
+    ∙ append-assoc (headerBytes (k .header)) (recordsBytes (k .records)) (blanks (n - (24 + sizes (k .records))))

@@ -14,12 +14,12 @@ use Rattle.bank.specs.Record.{Record, live, sizes, recordsBytes}
 use Rattle.bank.specs.Bank.{valid, partOf, bankOf}
 use Rattle.bank.specs.Totals.{select}
 use Rattle.bank.specs.WellFormed.{FineRecords}
+use Rattle.bank.proofs.PaddedLaws.{part-bytes}
 use Rattle.bank.proofs.LengthLaws.{length-header, length-records}
 use Rattle.records.specs.Records.{Holds}
 use Rattle.records.proofs.RecordLists.{fine-select}
 use Rattle.book.specs.Book.{partSize}
 use Rattle.book.proofs.BookLaws.{part-size}
-use Rattle.nvram.proofs.ActiveLaws.{part-bytes}
 use Rattle.moving.specs.Move.{ReadFirst, Movable}
 use Rattle.moving.proofs.CopyLaws.{span-long, span-over}
 use Rattle.moving.proofs.LiveLaws.{kept-room}
@@ -48,7 +48,7 @@ filled at p end h rs w u y f room stop low ends put fill =
     over-part p end u y ly
     ∙ ap (over p y) put
     ∙ over-over at p x y w (omega arith) (omega arith)
-    ∙ ap (λ (l : List ℕ). over at l w) (append-assoc (headerBytes h) (recordsBytes rs) y ∙ ap (λ (l : List ℕ). headerBytes h ++ (recordsBytes rs ++ l)) z ∙ sym (part-bytes (bankOf h rs (h .size)) f))
+    ∙ ap (λ (l : List ℕ). over at l w) (append-assoc (headerBytes h) (recordsBytes rs) y ∙ ap (λ (l : List ℕ). headerBytes h ++ (recordsBytes rs ++ l)) z ∙ sym (part-bytes partSize (bankOf h rs (h .size)) f))
 
 module _ {w : List ℕ} {from end part : ℕ} (m : Movable w from end part) (h : StoreHeader) where
   fits : part + length (headerBytes h) ≤ length w

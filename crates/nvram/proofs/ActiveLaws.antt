@@ -11,9 +11,10 @@ use Rattle.crc32.specs.Crc32.{Bytes}
 use Rattle.bank.specs.declared.header.StoreHeader.{StoreHeader}
 use Rattle.bank.specs.Header.{headerBytes}
 use Rattle.bank.specs.Record.{sizes, recordsBytes}
-use Rattle.bank.specs.Bank.{Bank, Slot, invalid, valid, padded, bankBytes, partOf}
+use Rattle.bank.specs.Bank.{Bank, Slot, invalid, valid, partOf}
 use Rattle.bank.specs.Totals.{total}
 use Rattle.bank.specs.WellFormed.{FineBank, FineRecords}
+use Rattle.bank.proofs.PaddedLaws.{part-bytes}
 use Rattle.bank.proofs.LengthLaws.{length-header, length-records}
 use Rattle.records.specs.Checked.{isSome}
 use Rattle.records.specs.Records.{Holds}
@@ -35,18 +36,6 @@ pub record Sound (s : Nvram) (w : List ℕ) : Type 0 where
   pub bytes : Bytes w
   pub long : length (s .banks) ≡ 16
   pub ok : isSome (view s w) ≡ true
-
--- a Valid slot's part: header, records, 0xFF
-pub part-bytes : (k : Bank) → FineRecords (k .records)
-    → partOf partSize (valid k)
-    ≡ headerBytes (k .header) ++ (recordsBytes (k .records) ++ replicate (partSize - (24 + sizes (k .records))) 255)
-unfolding partOf padded bankBytes
-part-bytes k f =
-    let n : partSize - length (headerBytes (k .header) ++ recordsBytes (k .records)) ≡ partSize - (24 + sizes (k .records)) =
-    ap (λ (i : ℕ). partSize - i)
-    (length-append (headerBytes (k .header)) (recordsBytes (k .records)) ∙ ap₂ (λ (a b : ℕ). a + b) (length-header (k .header)) (length-records (k .records) f)) in
-    ap (λ (i : ℕ). (headerBytes (k .header) ++ recordsBytes (k .records)) ++ replicate i 255) n
-    ∙ append-assoc (headerBytes (k .header)) (recordsBytes (k .records)) (replicate (partSize - (24 + sizes (k .records))) 255)
 
 module _ {s : Nvram} {w : List ℕ} (g : Sound s w) where
   pub book : Book
@@ -159,7 +148,7 @@ module _ {s : Nvram} {w : List ℕ} (g : Sound s w) where
         let r : List ℕ = recordsBytes (k .records) in
         let z : List ℕ = replicate (partSize - (24 + sizes (k .records))) 255 in
         let q : partOf partSize (valid k) ≡ headerBytes (bank .header) ++ (r ++ z) =
-        part-bytes k f ∙ ap (λ (h : StoreHeader). headerBytes h ++ (r ++ z)) e in
+        part-bytes partSize k f ∙ ap (λ (h : StoreHeader). headerBytes h ++ (r ++ z)) e in
         ap (λ (l : List ℕ). l ++ drop (book .n * partSize) w) (places .at (valid k) ∙ ap (λ (l : List ℕ). places .pre ++ (l ++ places .post)) q)
         ∙ simp append-assoc
 

@@ -21,6 +21,7 @@ use Rattle.bank.specs.Record.{Record, sizes, recordsBytes}
 use Rattle.bank.specs.Bank.{Bank, Slot, empty, invalid, valid, padded, bankBytes, partOf, bankOf}
 use Rattle.bank.specs.Totals.{total}
 use Rattle.bank.specs.WellFormed.{FineRecords, FineBank}
+use Rattle.bank.proofs.PaddedLaws.{part-bytes}
 use Rattle.bank.proofs.LengthLaws.{length-header, length-records, length-bank, FitsPart, length-part}
 use Rattle.bank.proofs.HeaderLaws.{header-back}
 use Rattle.bank.proofs.ReadBank.{head-fine}
@@ -67,23 +68,23 @@ fits-view h e p f =
 
 module _ (b : Bank) (f : FineRecords (b .records)) where
   abbrev free : List ℕ
-  free = replicate (partSize - length (bankBytes b)) 255
+  free = replicate (partSize - (24 + sizes (b .records))) 255
 
   abbrev part : List ℕ
   part = partOf partSize (valid b)
 
-  -- the part as header, records and 0xFF
-  pub part-is : part ≡ headerBytes (b .header) ++ (recordsBytes (b .records) ++ free)
-  unfolding partOf padded bankBytes
-  part-is = append-assoc (headerBytes (b .header)) (recordsBytes (b .records)) free
+  part-is : part ≡ headerBytes (b .header) ++ (recordsBytes (b .records) ++ free)
+  part-is = part-bytes partSize b f
 
   part-reserved : getD part 15 0 ≡ 0
   unfolding headerBytes le32
   part-reserved = ap (λ (s : List ℕ). getD s 15 0) part-is
 
   part-rest : drop (total b) part ≡ free
-  unfolding partOf padded
-  part-rest = drop-at (bankBytes b) free (total b) (length-bank b f)
+  unfolding bankBytes
+  part-rest =
+      ap (drop (total b)) (part-is ∙ sym (append-assoc (headerBytes (b .header)) (recordsBytes (b .records)) free))
+      ∙ drop-at (headerBytes (b .header) ++ recordsBytes (b .records)) free (total b) (length-bank b f)
 
   pub part-records : take (total b - 24) (drop 24 part) ≡ recordsBytes (b .records)
   unfolding total
@@ -111,7 +112,7 @@ bank-view b f t =
       total-high = t;
       usable-low = f .usable-low;
       usable-high = f .usable-high;
-      rest = ap allFF (part-rest b r) ∙ all-ff-replicate (partSize - length (bankBytes b));
+      rest = ap allFF (part-rest b r) ∙ all-ff-replicate (partSize - (24 + sizes (b .records)));
     } in
     ap (λ (o : Head). viewHead o (entryOf (valid b)) p) q ∙ fits-view (b .header) (entryOf (valid b)) p v
     ∙ ap (slotWith (b .header) (b .usable)) (ap viewRecords (part-records b r) ∙ view-records (b .records) r)

@@ -13,9 +13,10 @@ use Rattle.buffers.proofs.OverLaws.{over-copy}
 use Rattle.bank.specs.declared.header.Head.{Head}
 use Rattle.bank.specs.declared.header.Head.the-variants.{Good, Signature, Version, Size}
 use Rattle.bank.specs.Header.{headerBytes, readHeader}
-use Rattle.bank.specs.Record.{recordsBytes}
-use Rattle.bank.specs.Bank.{Slot, empty, invalid, valid, bankBytes, partOf}
+use Rattle.bank.specs.Record.{recordsBytes, sizes}
+use Rattle.bank.specs.Bank.{Slot, empty, invalid, valid, partOf}
 use Rattle.bank.specs.Totals.{total}
+use Rattle.bank.proofs.PaddedLaws.{part-bytes}
 use Rattle.bank.proofs.HeaderLaws.{header-back}
 use Rattle.book.specs.Book.{partSize, FineSlot, slotSize}
 use Rattle.book.specs.Commit.{slotOutput, imageOutput, overfull, anyOverfull}
@@ -24,7 +25,6 @@ use Rattle.nvram.specs.declared.state.Kind.the-variants.{Empty, Valid}
 use Rattle.nvram.specs.declared.state.Entry.{Entry}
 use Rattle.nvram.specs.Part.{entry, entryOf}
 use Rattle.nvram.specs.Layout.{layParts}
-use Rattle.nvram.proofs.SlotLaws.{part-is}
 use Rattle.nvram.proofs.LayoutLaws.{length-parts, split, table-at}
 use Rattle.nvram.proofs.CallLaws.{empty-valid, invalid-valid}
 use Rattle.nvram.proofs.PlaceLaws.{bank-out}
@@ -90,10 +90,10 @@ module _ {t : List Entry} {w : List ℕ} {i : ℕ} where
   size-valid {k = empty} z v o g x h = absurd (empty-valid _ (ap (λ (e : Entry). e .kind) (z .entry-is)) v)
   size-valid {k = invalid} z v o g x h = absurd (invalid-valid _ (ap (λ (e : Entry). e .kind) (z .entry-is)) v)
   size-valid {k = valid b} z v o g x h =
-      let rows = recordsBytes (b .records) ++ replicate (partSize - length (bankBytes b)) 255 in
+      let behind = recordsBytes (b .records) ++ replicate (partSize - (24 + sizes (b .records))) 255 in
       let p = take-all (length w - i * 131072) (drop (i * 131072) w) (omega (arith, length-drop (i * 131072) w)) in
-      let q = ap (λ (l : List ℕ). l ++ z .rest) (part-is b (z .fine .0 .records-fine)) ∙ append-assoc (headerBytes (b .header)) rows (z .rest) in
-      ap headSize (sym h ∙ g ∙ ap readHeader (p ∙ z .part ∙ q) ∙ header-back (b .header) (rows ++ z .rest) (z .fine .0 .header-fine))
+      let q = ap (λ (l : List ℕ). l ++ z .rest) (part-bytes partSize b (z .fine .0 .records-fine)) ∙ append-assoc (headerBytes (b .header)) behind (z .rest) in
+      ap headSize (sym h ∙ g ∙ ap readHeader (p ∙ z .part ∙ q) ∙ header-back (b .header) (behind ++ z .rest) (z .fine .0 .header-fine))
 
   pub size-fits : {k : Slot} {r : ℕ} → SlotHere t w i k → r ≡ slotSize k → r ≤ 65536
   size-fits {k = empty} z e = omega arith
