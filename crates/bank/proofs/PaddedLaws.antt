@@ -1,9 +1,9 @@
 -- Bytes padded with 0xFF to a length: up to a shorter one they are padded to that (`take-padded`), and behind it all is 0xFF (`drop-padded`); and a
 -- bank's part as header, records and 0xFF (`part-bytes`).
 use Prim.Native.Nat.{ℕ, _+_, _-_, _≤_}
-use native.Mathlib.Omega.{arith}
 use mathlib.Core.Path.{_≡_, sym, ap, _∙_}
 use mathlib.Core.List.{List, _++_, append-assoc}
+use native.Mathlib.Omega.{arith}
 use lib.ListN.{length, take, drop, replicate, length-replicate, replicate-append-replicate}
 use lib.Seq.{take-at, drop-at}
 use Rattle.bank.specs.Header.{headerBytes}

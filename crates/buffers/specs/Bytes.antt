@@ -1,8 +1,8 @@
 -- Bytes put over others, and tests of bytes: all 0xFF, all 0 or 0xFF, how many 0xFF in front, the same as others.
 use Prim.Native.Nat.{ℕ, _+_, suc}
 use mathlib.Core.List.{List, [], _∷_, _++_}
-use lib.ListN.{length, take, drop}
 use mathlib.Core.Bool.{Bool, true, false, _&&_, _||_, cond}
+use lib.ListN.{length, take, drop}
 use lib.Dec.{eqb}
 
 -- w with the bytes x over it from a place on

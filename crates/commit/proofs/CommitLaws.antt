@@ -33,8 +33,8 @@ use Rattle.nvram.specs.Contract.{Does}
 use Rattle.nvram.proofs.CallLaws.{does, by-7, by-valid}
 use Rattle.nvram.proofs.ActiveLaws.{Sound, book, viewed, state-is, work-is, fine, active-is, n-is, entry-is, does-refuse, bank, bank-is, bank-fine, total-is, usable-is}
 use Rattle.nvram.proofs.PlaceLaws.{after, part-here, bank-out}
-use Rattle.commit.specs.declared.Applied.{Applied}
-use Rattle.commit.specs.Applied.{applied}
+use Rattle.requests.specs.declared.Applied.{Applied}
+use Rattle.requests.specs.Applied.{applied}
 use Rattle.commit.specs.Active.{ActiveHas, Active, MoveDue, Used, Commits}
 
 -- what the check answers of the active bank

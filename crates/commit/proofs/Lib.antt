@@ -1,3 +1,3 @@
-pub mod PieceLaws
+pub mod JudgeSteps
 pub mod CommitLaws
 pub mod MovingLaws

@@ -38,7 +38,7 @@ use Rattle.nvram.proofs.ActiveLaws.{Sound, book, viewed, fine, active-is, n-is,
 use Rattle.nvram.proofs.ReadyLaws.{records, here}
 use Rattle.nvram.proofs.PlaceLaws.{inside, workWith, laid-with, from-place, over-place, bank-out}
 use Rattle.moving.specs.Move.{Movable}
-use Rattle.commit.specs.Applied.{movedState}
+use Rattle.requests.specs.Applied.{movedState}
 use Rattle.commit.specs.Active.{MoveDue}
 use Rattle.commit.proofs.CommitLaws.{ActiveKnown, sound, header-is, size-is, commit-step}
 

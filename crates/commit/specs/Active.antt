@@ -1,25 +1,31 @@
--- A commit of the active bank: what it starts from, and what it answers and leaves.
+-- A commit of the active bank: its verdict, what it starts from, and what it answers and leaves.
 use Prim.Native.Nat.{ℕ}
 use mathlib.Core.Path.{_≡_}
+use mathlib.Core.Option.{some}
 use mathlib.Core.List.{List}
 use mathlib.Core.Bool.{true}
-use mathlib.Core.Option.{some}
 use lib.ListN.{length, take, drop}
 use Rattle.bank.specs.declared.header.StoreHeader.{StoreHeader}
 use Rattle.bank.specs.Bank.{Bank, valid}
 use Rattle.records.specs.declared.figures.Figures.{Figures}
 use Rattle.records.specs.Checked.{isSome}
 use Rattle.records.specs.Figures.{figuresOf}
-use Rattle.book.specs.Book.{Book, activeSlot}
-use Rattle.book.specs.Commit.{move, judgeBank}
+use Rattle.book.specs.Commit.{Judged, refuse, inPlace, move, judgeBank}
 use Rattle.book.specs.Call.{commit}
+use Rattle.book.specs.Book.{Book, activeSlot}
 use Rattle.nvram.specs.declared.state.Kind.the-variants.{Valid}
 use Rattle.nvram.specs.declared.state.Nvram.{Nvram}
 use Rattle.nvram.specs.Layout.{view}
 use Rattle.nvram.specs.Ready.{activeEntry}
 use Rattle.nvram.specs.Contract.{Does}
-use Rattle.commit.specs.declared.Applied.{Applied}
-use Rattle.commit.specs.Applied.{applied}
+use Rattle.requests.specs.declared.Applied.{Applied}
+use Rattle.requests.specs.Applied.{applied}
+use Rattle.commit.specs.declared.Judged as code
+
+abbrev pub verdict : code.Judged → Judged
+verdict (code.the-variants.Refuse n) = refuse n
+verdict code.the-variants.InPlace = inPlace
+verdict code.the-variants.Move = move
 
 -- a property of the active bank
 abbrev pub ActiveHas : Nvram → List ℕ → (Bank → Type 0) → Type 0

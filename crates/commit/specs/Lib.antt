@@ -1,2 +1,1 @@
-pub mod Applied
 pub mod Active

@@ -1,7 +1,7 @@
 // The store's calls. The state travels as bytes, of which `state_bytes` has the layout.
 use bank::VarType;
-use commit::Applied;
-use commit::Erase;
+use requests::Applied;
+use requests::Erase;
 use state_bytes::STATE;
 use state_bytes::load;
 use state_bytes::store;
@@ -15,7 +15,7 @@ ghost use lib.ListN.{length};
 ghost use Rattle.book.specs.Edit.{plain, insert, remove};
 ghost use Rattle.book.specs.Call.{edit, lookup, fetch, commit, wholeImage, number as numberOf};
 ghost use Rattle.variables.specs.LookupAnswer.{lookupAnswer};
-ghost use Rattle.commit.specs.Applied.{applied};
+ghost use Rattle.requests.specs.Applied.{applied};
 ghost use Rattle.exports.specs.Store.{varTypeOf, fieldsOf, Calls, ExportOpens};
 
 fn var_type(typ: u32) -> VarType

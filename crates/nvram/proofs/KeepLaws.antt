@@ -5,8 +5,8 @@ use mathlib.Core.Path.{_≡_, refl, sym, ap, _∙_, subst}
 use mathlib.Core.List.{List, []}
 use mathlib.Core.Logic.{_≢_}
 use mathlib.Core.Option.{Option, some}
-use lib.ListN.{length}
 use mathlib.Core.Bool.{Bool, true, false}
+use lib.ListN.{length}
 use Rattle.crc32.specs.Crc32.{Bytes}
 use Rattle.records.specs.Checked.{isSome}
 use Rattle.book.specs.Book.{Book, FineBook}

@@ -1,13 +1,13 @@
 -- What an erase and a write leave of the flash: one bank is replaced and the others stay (`erased-bank`, `written-bank`). A write ANDs, so onto 0xFF
 -- it comes out as it is (`ands-ff`), and onto any bytes what can be read has no greater generation (`generation-below`).
 use Prim.Native.Nat.{ℕ, _+_, _-_, _≤_, _<_, zero, suc, _*_}
-use native.Mathlib.Omega.{arith}
 use mathlib.Core.Path.{_≡_, refl, ap, _∙_, sym, ap₂, subst}
 use mathlib.Core.List.{List, _++_, [], _∷_, append-nil}
-use lib.ListN.{length, List·getD-append, getD, take, drop, take-append-drop, length-drop, drop-of-length-le}
+use mathlib.Core.Logic.{_≢_}
+use native.Mathlib.Omega.{arith}
 use native.Mathlib.Nat.{mul-le-mul-right, suc-mul, mod-eq-of-lt, lt-of-le-of-lt}
 use native.Mathlib.Decide.{decLe}
-use mathlib.Core.Logic.{_≢_}
+use lib.ListN.{length, List·getD-append, getD, take, drop, take-append-drop, length-drop, drop-of-length-le}
 use lib.Bits.{bitAnd, and-self, and-mask, and-comm, and-le-r}
 use lib.Seq.{take-append-le, drop-append-le, take-at, drop-at, length-take-le, drop-drop}
 use Rattle.crc32.specs.Crc32.{Bytes}

@@ -6,7 +6,7 @@ use native.Mathlib.Omega.{arith}
 use lib.ListN.{length-map}
 use Rattle.book.specs.Commit.{judgeBank}
 use Rattle.nvram.proofs.ActiveLaws.{active-in, part-within}
-use Rattle.commit.specs.Applied.{verdict}
+use Rattle.commit.specs.Active.{verdict}
 use Rattle.commit.proofs.CommitLaws.{ActiveKnown, sound, here, size-high, judged, move-due, refuses, stays, quiet, wrote}
 use Rattle.commit.proofs.commit_active.Statement.{statement}
 use Rattle.commit.proofs.commit_active.Tie as tie

@@ -1,5 +1,5 @@
 use borrow.Author.Tests.{not-true, not-false}
-use Rattle.commit.proofs.PieceLaws.{judge-9, judge-10, judge-stays, judge-11, judge-move}
+use Rattle.commit.proofs.JudgeSteps.{judge-9, judge-10, judge-stays, judge-11, judge-move}
 use Rattle.commit.proofs.judge.Statement.{statement}
 use Rattle.commit.proofs.judge.Tie as tie
 use borrow.Author.Needs.{needs}

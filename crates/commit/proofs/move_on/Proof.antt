@@ -2,7 +2,7 @@
 -- where the live records are over the size, and `does-move`.
 use native.Mathlib.Omega.{arith}
 use lib.ListN.{length-map}
-use Rattle.commit.specs.Applied.{eraseOf}
+use Rattle.requests.specs.Applied.{eraseOf}
 use Rattle.commit.proofs.CommitLaws.{size-high, quiet, wrote}
 use Rattle.commit.proofs.MovingLaws.{Moving, some-bank, next-in, movable, may-raise, total-fits, MoveLeft, new-in, new-within, does-12, does-move}
 use Rattle.commit.proofs.move_on.Statement.{statement}

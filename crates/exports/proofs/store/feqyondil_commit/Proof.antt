@@ -4,7 +4,7 @@ use mathlib.Core.Path.{refl}
 use borrow.Author.Tests.{not-true, not-false}
 use lib.ListN.{length}
 use Rattle.book.specs.Call.{commit}
-use Rattle.commit.specs.Applied.{applied}
+use Rattle.requests.specs.Applied.{applied}
 use Rattle.state_bytes.proofs.StateLaws.{read-is}
 use Rattle.exports.proofs.StoreLaws.{loaded-none, loaded-some, calls-6, calls}
 use Rattle.exports.proofs.store.feqyondil_commit.Statement.{statement}

@@ -1,7 +1,7 @@
 use mathlib.Core.Path.{sym, ap}
 use Rattle.book.specs.Call.{committed}
-use Rattle.commit.specs.declared.Erase.{Erase}
-use Rattle.commit.specs.Applied.{eraseOf}
+use Rattle.requests.specs.declared.Erase.{Erase}
+use Rattle.requests.specs.Applied.{eraseOf}
 use Rattle.exports.specs.Store.{fieldsOf}
 use Rattle.exports.proofs.store.requests.Statement.{statement}
 use Rattle.exports.proofs.store.requests.Tie as tie

@@ -2,9 +2,9 @@
 use Prim.Native.Nat.{_*_}
 use mathlib.Core.Path.{refl}
 use native.Mathlib.Omega.{arith}
-use Rattle.commit.proofs.PieceLaws.{front-written}
-use Rattle.commit.proofs.write.Statement.{statement}
-use Rattle.commit.proofs.write.Tie as tie
+use Rattle.requests.proofs.RequestLaws.{front-written}
+use Rattle.requests.proofs.write.Statement.{statement}
+use Rattle.requests.proofs.write.Tie as tie
 use borrow.Author.Needs.{needs}
 
 cast-i : tie.Need-cast-i

@@ -1,6 +1,6 @@
-use Rattle.commit.proofs.PieceLaws.{tally-full, tally-more}
-use Rattle.commit.proofs.tally.Statement.{statement}
-use Rattle.commit.proofs.tally.Tie as tie
+use Rattle.requests.proofs.RequestLaws.{tally-full, tally-more}
+use Rattle.requests.proofs.tally.Statement.{statement}
+use Rattle.requests.proofs.tally.Tie as tie
 use borrow.Author.Needs.{needs}
 
 enum-told : tie.Need-enum-told

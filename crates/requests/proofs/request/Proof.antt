@@ -1,7 +1,7 @@
 use mathlib.Core.Logic.{inl, inr}
-use Rattle.commit.proofs.PieceLaws.{request-none, request-some}
-use Rattle.commit.proofs.request.Statement.{statement}
-use Rattle.commit.proofs.request.Tie as tie
+use Rattle.requests.proofs.RequestLaws.{request-none, request-some}
+use Rattle.requests.proofs.request.Statement.{statement}
+use Rattle.requests.proofs.request.Tie as tie
 use borrow.Author.Needs.{needs}
 
 enum-told : tie.Need-enum-told

@@ -1,6 +1,6 @@
-use Rattle.commit.proofs.PieceLaws.{moved-is}
-use Rattle.commit.proofs.moved.Statement.{statement}
-use Rattle.commit.proofs.moved.Tie as tie
+use Rattle.requests.proofs.RequestLaws.{moved-is}
+use Rattle.requests.proofs.moved.Statement.{statement}
+use Rattle.requests.proofs.moved.Tie as tie
 use borrow.Author.Needs.{needs}
 
 cast-next : tie.Need-cast-next

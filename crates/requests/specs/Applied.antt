@@ -1,17 +1,15 @@
--- What the code answers of a commit as the book's answer: its number, erase request and write, and its verdict; and the state that a move leaves.
+-- What the code answers of a commit as the book's answer: its number, erase request and write; and the state that a move leaves.
 use Prim.Native.Nat.{ℕ}
 use mathlib.Core.Option.{Option, none, some}
 use lib.ListN.{set}
-use Rattle.book.specs.Commit.{Judged, refuse, inPlace, move}
 use Rattle.book.specs.Call.{Answer, committed}
 use Rattle.book.specs.Tally.{counted}
 use Rattle.nvram.specs.declared.state.Kind.the-variants.{Valid}
 use Rattle.nvram.specs.declared.state.Nvram.{Nvram}
 use Rattle.nvram.specs.Part.{entry}
-use Rattle.commit.specs.declared.Erase.{Erase}
-use Rattle.commit.specs.declared.Erase.the-variants.{Nothing, At}
-use Rattle.commit.specs.declared.Applied.{Applied}
-use Rattle.commit.specs.declared.Judged as code
+use Rattle.requests.specs.declared.Erase.{Erase}
+use Rattle.requests.specs.declared.Erase.the-variants.{Nothing, At}
+use Rattle.requests.specs.declared.Applied.{Applied}
 
 -- no erase request, or one
 abbrev pub eraseOf : Erase → Option ℕ
@@ -20,11 +18,6 @@ eraseOf (At offset) = some offset
 
 abbrev pub applied : Applied → Answer
 applied r = committed (r .number) (eraseOf (r .erase)) (r .offset) (r .length)
-
-abbrev pub verdict : code.Judged → Judged
-verdict (code.the-variants.Refuse n) = refuse n
-verdict code.the-variants.InPlace = inPlace
-verdict code.the-variants.Move = move
 
 -- a state after a move: the bank in slot i, which becomes active, and the erase request counted
 unfoldable pub movedState : Nvram → ℕ → ℕ → ℕ → Option ℕ → Nvram

@@ -1,52 +1,26 @@
--- What a commit's small functions answer: the judgement of a bank, the erase request, the tally, and what is written to the output.
+-- What a commit asks and leaves, piece by piece: the erase request by the slot's kind, the tally with one more, the state after a move, and the
+-- output's front.
 use Prim.Native.Nat.{ℕ, _+_, _*_, _-_, _≤_, _<_}
 use mathlib.Core.Path.{_≡_, refl, sym, ap, _∙_}
 use mathlib.Core.List.{List, _++_}
-use mathlib.Core.Logic.{_⊎_, inl, inr, _≢_}
-use mathlib.Core.Bool.{Bool, true, false}
+use mathlib.Core.Logic.{_⊎_, inl, inr}
 use mathlib.Core.Option.{Option, none, some}
 use native.Mathlib.Omega.{arith}
 use native.Mathlib.Nat.{min-eq-left, min-eq-right}
 use lib.ListN.{length, set, take, drop, length-drop}
 use lib.Seq.{length-take-le}
-use borrow.Author.Tests.{lt-ltb, le-ltb, eq-eqb, ne-eqb}
 use Rattle.buffers.specs.Bytes.{onto}
 use Rattle.buffers.proofs.Laws.{clash, onto-fits}
-use Rattle.bank.specs.declared.header.StoreHeader.{StoreHeader}
 use Rattle.bank.specs.Bank.{Slot, empty, invalid, valid, bankSize}
-use Rattle.book.specs.Commit.{refuse, inPlace, move, judge, request}
+use Rattle.book.specs.Commit.{request}
 use Rattle.book.specs.Tally.{Tally, counted}
 use Rattle.nvram.specs.declared.state.Kind.{Kind}
 use Rattle.nvram.specs.declared.state.Kind.the-variants.{Empty, Invalid, Valid}
 use Rattle.nvram.specs.declared.state.Nvram.{Nvram}
 use Rattle.nvram.specs.Part.{entry, entryOf}
-use Rattle.commit.specs.declared.Erase.{Erase}
-use Rattle.commit.specs.declared.Erase.the-variants.{At}
-use Rattle.commit.specs.Applied.{eraseOf, movedState}
-
--- the judgement, test by test
-module _ (h : StoreHeader) (system common : ℕ) (d : Bool) where
-  pub judge-9 : h .«system_size» < system → refuse 9 ≡ judge h system common d
-  unfolding judge
-  judge-9 p = simp (lt-ltb _ _ p)
-
-  module _ (p : system ≤ h .«system_size») where
-    pub judge-10 : h .«common_size» < common → refuse 10 ≡ judge h system common d
-    unfolding judge
-    judge-10 q = simp (le-ltb _ _ p, lt-ltb _ _ q)
-
-    module _ (q : common ≤ h .«common_size») where
-      pub judge-stays : d ≡ false → inPlace ≡ judge h system common d
-      unfolding judge
-      judge-stays r = simp (le-ltb _ _ p, le-ltb _ _ q, r)
-
-      pub judge-11 : d ≡ true → h .generation ≡ 4294967295 → refuse 11 ≡ judge h system common d
-      unfolding judge
-      judge-11 r g = simp (le-ltb _ _ p, le-ltb _ _ q, r, eq-eqb _ _ g)
-
-      pub judge-move : d ≡ true → h .generation ≢ 4294967295 → move ≡ judge h system common d
-      unfolding judge
-      judge-move r g = simp (le-ltb _ _ p, le-ltb _ _ q, r, ne-eqb _ _ g)
+use Rattle.requests.specs.declared.Erase.{Erase}
+use Rattle.requests.specs.declared.Erase.the-variants.{At}
+use Rattle.requests.specs.Applied.{eraseOf, movedState}
 
 -- the erase request, by the slot's kind
 module _ {x : Kind} (i : ℕ) where
