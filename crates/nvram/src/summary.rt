@@ -12,7 +12,7 @@ pub struct Summary {
 }
 
 impl Summary {
-    pub fn none() -> Summary
+    pub(crate) fn none() -> Summary
         ensures { λ r. ⌜ r ≡ noSummary ⌝ }
     {
         let header = StoreHeader {
@@ -30,7 +30,7 @@ impl Summary {
     }
 
     // This where the test holds, else another.
-    pub fn or_else(self, test: bool, other: Summary) -> Summary
+    pub(crate) fn or_else(self, test: bool, other: Summary) -> Summary
         ensures { λ r. ⌜ r ≡ cond test self other ⌝ }
     {
         if test { self } else { other }
@@ -44,7 +44,7 @@ pub struct Soundness {
 }
 
 impl Soundness {
-    pub fn unsound() -> Soundness
+    pub(crate) fn unsound() -> Soundness
         ensures { λ r. ⌜ r ≡ notSound ⌝ }
     {
         Soundness {

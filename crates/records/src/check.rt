@@ -18,7 +18,7 @@ pub struct Checked {
 }
 
 impl Checked {
-    pub fn unsound() -> Checked
+    pub(crate) fn unsound() -> Checked
         ensures { λ r. ⌜ r ≡ unsound ⌝ }
     {
         Checked {

@@ -30,7 +30,7 @@ impl Figures {
     }
 
     // With the record of n bytes that begins s, if it is to be counted.
-    pub fn count(self, counting: bool, s: &[u8], n: usize) -> Figures
+    pub(crate) fn count(self, counting: bool, s: &[u8], n: usize) -> Figures
         requires { ⌜ (36 ≤ length (now s)) × (self .system + n < 18446744073709551616) × (self .common + n < 18446744073709551616) ⌝ }
         ensures { λ r. ⌜ r ≡ cond counting (plus self (figuresBy (recordOf (now (s .entry))) n)) self ⌝ }
     {
