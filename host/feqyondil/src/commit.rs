@@ -59,11 +59,7 @@ pub(crate) fn told(
         _ => panic!("the library answered {requests:?}"),
     };
     match (Refusal::check(number), output.get(..length)) {
-        (Ok(()), Some(bytes)) => Ok(Commit {
-            erase,
-            offset,
-            bytes,
-        }),
+        (Ok(()), Some(bytes)) => Ok(Commit { erase, offset, bytes }),
         (Ok(()), None) => panic!("the library answered {requests:?}"),
         (Err(Refusal::MovedOver), _) => Err(NotCommitted::Moved { erase }),
         (Err(refusal), _) => Err(NotCommitted::Refused(refusal)),

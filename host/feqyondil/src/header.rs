@@ -95,11 +95,9 @@ fn sizes(defined: &mut Defined) {
 }
 
 fn states(defined: &mut Defined) {
-    for (name, kind) in [
-        ("KIND_EMPTY", Kind::Empty),
-        ("KIND_INVALID", Kind::Invalid),
-        ("KIND_VALID", Kind::Valid),
-    ] {
+    for (name, kind) in
+        [("KIND_EMPTY", Kind::Empty), ("KIND_INVALID", Kind::Invalid), ("KIND_VALID", Kind::Valid)]
+    {
         let mut state = [0; STATE_SIZE];
         state[STATE_ENTRIES] = defined.take(name) as u8;
         assert_eq!(entry(&state, 0).kind, kind);
@@ -139,10 +137,6 @@ fn answers(defined: &mut Defined) {
     requests[defined.take_place("ERASE_OFFSET")] = 65_536;
     requests[defined.take_place("WRITE_OFFSET")] = 131_072;
     requests[defined.take_place("WRITE_LENGTH")] = 3;
-    let commit = Commit {
-        erase: Some(65_536),
-        offset: 131_072,
-        bytes: &[7; 3],
-    };
+    let commit = Commit { erase: Some(65_536), offset: 131_072, bytes: &[7; 3] };
     assert_eq!(told(0, requests, &[7; 4]), Ok(commit));
 }

@@ -94,9 +94,7 @@ pub fn insert(state: &mut [u8], work: &mut [u8], key: &[u8], value: &[u8], typ: 
     let (value, value_len) = (value.as_ptr(), value.len());
     // SAFETY: as above.
     unsafe {
-        feqyondil_insert(
-            state, state_len, work, work_len, key, key_len, value, value_len, typ,
-        )
+        feqyondil_insert(state, state_len, work, work_len, key, key_len, value, value_len, typ)
     }
 }
 
@@ -125,11 +123,7 @@ pub fn value(state: &[u8], work: &[u8], key: &[u8], typ: u32, out: &mut [u8]) ->
     let (key, key_len) = (key.as_ptr(), key.len());
     let (out, out_len) = (out.as_mut_ptr(), out.len());
     // SAFETY: as above.
-    unsafe {
-        feqyondil_value(
-            state, state_len, work, work_len, key, key_len, typ, out, out_len,
-        )
-    }
+    unsafe { feqyondil_value(state, state_len, work, work_len, key, key_len, typ, out, out_len) }
 }
 
 /// Commits: 0, 5, 6, 7, or 9 to 12. `requests` becomes whether a bank is to be erased (1 or 0) and
@@ -144,11 +138,7 @@ pub fn commit(
     let (work, work_len) = (work.as_mut_ptr(), work.len());
     let (output, output_len) = (output.as_mut_ptr(), output.len());
     // SAFETY: as above.
-    unsafe {
-        feqyondil_commit(
-            state, state_len, work, work_len, output, output_len, requests,
-        )
-    }
+    unsafe { feqyondil_commit(state, state_len, work, work_len, output, output_len, requests) }
 }
 
 /// Joins the Valid banks in `output`: 0, 5, 6 or 13; `length` becomes how many bytes they are.

@@ -123,10 +123,7 @@ mod tests {
         assert_eq!(part, [0xFF; BANK_SIZE + 3]);
         nvr[..8].copy_from_slice(b"3VVN\x18\0\0\0");
         nvr[14] = 1;
-        assert!(matches!(
-            partition_serialize(&nvr, &mut part),
-            Slot::Valid(_)
-        ));
+        assert!(matches!(partition_serialize(&nvr, &mut part), Slot::Valid(_)));
         nvr[15] = 0; // reserved
         assert_eq!(part[..24], nvr[..24]);
     }

@@ -75,11 +75,7 @@ mod tests {
         let last = STATE_SIZE - ENTRY_SIZE;
         state[last..].copy_from_slice(b"\x02\0\0\0\x04\x03\x02\x01\x18\0\0\0");
         assert_eq!(number(&state, last + ENTRY_TOTAL), 0x0102_0304);
-        let valid = Entry {
-            kind: Kind::Valid,
-            total: 0x0102_0304,
-            usable: 24,
-        };
+        let valid = Entry { kind: Kind::Valid, total: 0x0102_0304, usable: 24 };
         assert_eq!(entry(&state, BANKS_MAX - 1), valid);
         assert_eq!(entry(&state, 0).kind, Kind::Empty);
     }

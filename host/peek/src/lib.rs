@@ -36,10 +36,7 @@ mod tests {
 
     #[test]
     fn the_banks_are_seen() {
-        let header = |generation| Header {
-            generation,
-            ..Header::default()
-        };
+        let header = |generation| Header { generation, ..Header::default() };
         let records = [Record::live(b"a", b"1"), Record::live(b"b", b"2")];
         let first = image::bank(&header(3), &[]);
         let image = [first, image::bank(&header(7), &records)].concat();

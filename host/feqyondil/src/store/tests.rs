@@ -93,17 +93,10 @@ fn the_state_is_told() {
     let mut store = Store::open(&flash, &mut work).unwrap();
     store.insert(b"rate", b"123456789", System).unwrap();
     assert_eq!((store.banks(), store.active(), store.tally()), (3, 1, 0));
-    let told = [
-        (Kind::Empty, 0, 0),
-        (Kind::Valid, 24 + 37 + 4 + 9, BANK_SIZE),
-        (Kind::Invalid, 0, 0),
-    ];
+    let told =
+        [(Kind::Empty, 0, 0), (Kind::Valid, 24 + 37 + 4 + 9, BANK_SIZE), (Kind::Invalid, 0, 0)];
     for (i, (kind, total, usable)) in told.into_iter().enumerate() {
-        let entry = Entry {
-            kind,
-            total,
-            usable,
-        };
+        let entry = Entry { kind, total, usable };
         assert_eq!(store.bank(i), Some(entry));
     }
     assert_eq!((store.bank(3), store.bank(BANKS_MAX)), (None, None));
