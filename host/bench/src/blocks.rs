@@ -41,10 +41,7 @@ fn is_sound(tables: &Tables, state: &[u8], work: &[u8]) -> bool {
     if state.len() < STATE_SIZE {
         return false;
     }
-    let (n, active) = (
-        number(state, STATE_BANKS) as usize,
-        number(state, STATE_ACTIVE) as usize,
-    );
+    let (n, active) = (number(state, STATE_BANKS) as usize, number(state, STATE_ACTIVE) as usize);
     if !(1..=BANKS_MAX).contains(&n) || active >= n || work.len() < n * PART_SIZE {
         return false;
     }
@@ -92,10 +89,7 @@ fn record(tables: &Tables, rest: &[u8]) -> Option<usize> {
 fn find(used: &[u8], key: &[u8], system: bool) -> Option<(usize, usize)> {
     let mut at = HEADER;
     while at < used.len() {
-        let (name, value) = (
-            number(used, at + 8) as usize,
-            number(used, at + 12) as usize,
-        );
+        let (name, value) = (number(used, at + 8) as usize, number(used, at + 12) as usize);
         let place = at + RECORD + name;
         let live = used[at + 2] == 0x7F;
         let kind = (used[at + 16..at + 32] == SYSTEM_GUID) == system;
@@ -114,10 +108,7 @@ mod tests {
     use image::{Header, Record};
 
     fn store(work: &mut [u8]) -> Store<'_> {
-        let records = [
-            Record::live(b"a", b"1"),
-            Record::live(b"rate", b"123456789"),
-        ];
+        let records = [Record::live(b"a", b"1"), Record::live(b"rate", b"12345")];
         let bank = image::bank(&Header::default(), &records);
         let image = [bank, vec![0xFF; BANK], vec![0; BANK]].concat();
         Store::open(&image, work).unwrap()
@@ -127,15 +118,10 @@ mod tests {
     fn it_finds_what_the_port_finds() {
         let (mut entries, mut work) = ([0; CRC32_TABLE_ENTRIES], vec![0; 3 * PART_SIZE]);
         let (tables, store) = (Tables::new(&mut entries), store(&mut work));
-        for (key, typ) in [
-            (&b"rate"[..], VarType::System),
-            (b"a", VarType::System),
-            (b"a", VarType::Common),
-            (b"", VarType::System),
-        ] {
-            let system = typ == VarType::System;
-            let found = lookup(&tables, store.state(), store.work(), key, system);
-            let port = store.find(key, typ).unwrap();
+        for (key, system) in [("rate", true), ("a", true), ("a", false), ("", true)] {
+            let typ = [VarType::Common, VarType::System][usize::from(system)];
+            let found = lookup(&tables, store.state(), store.work(), key.as_bytes(), system);
+            let port = store.find(key.as_bytes(), typ).unwrap();
             assert_eq!(found, Ok(port.map(|place| (place.start, place.len()))));
         }
     }
@@ -144,32 +130,20 @@ mod tests {
     fn it_looks_at_every_byte_that_has_no_say() {
         let (mut entries, mut work) = ([0; CRC32_TABLE_ENTRIES], vec![0; 3 * PART_SIZE]);
         let (tables, store) = (Tables::new(&mut entries), store(&mut work));
-        let refused = |state: &[u8], work: &[u8]| {
-            let found = lookup(&tables, state, work, b"a", true);
-            assert_eq!(found, Err(6));
-        };
-        for at in [
-            0,
-            15,
-            27,
-            32,
-            61,
-            62,
-            PART_SIZE - 1,
-            PART_SIZE,
-            2 * PART_SIZE - 1,
-            3 * PART_SIZE - 1,
-        ] {
+        let refused =
+            |state: &[u8], work: &[u8]| lookup(&tables, state, work, b"a", true) == Err(6);
+        let ends = [1, 2, 3].map(|parts| parts * PART_SIZE - 1);
+        for at in [0, 15, 27, 32, 61, 62, PART_SIZE].into_iter().chain(ends) {
             let mut work = store.work().to_vec();
             work[at] ^= 1;
-            refused(store.state(), &work);
+            assert!(refused(store.state(), &work));
         }
         for at in [0, 4, 12, 16, 24, 28, 48, 203] {
             let mut state = *store.state();
             state[at] ^= 0x10;
-            refused(&state, store.work());
+            assert!(refused(&state, store.work()));
         }
-        refused(&store.state()[1..], store.work());
-        refused(store.state(), &store.work()[1..]);
+        assert!(refused(&store.state()[1..], store.work()));
+        assert!(refused(store.state(), &store.work()[1..]));
     }
 }

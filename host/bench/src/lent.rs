@@ -1,10 +1,8 @@
-//! The port's calls; edits are undone after each.
+//! The port's calls, which answer 1 if they did it; edits are undone after each.
 
-use feqyondil::state::{
-    number, ENTRY_SIZE, ENTRY_TOTAL, ENTRY_USABLE, STATE_ACTIVE, STATE_ENTRIES,
-};
+use feqyondil::state::{ENTRY_SIZE, ENTRY_TOTAL, ENTRY_USABLE, STATE_ACTIVE, STATE_ENTRIES};
 use feqyondil::{PART_SIZE, STATE_SIZE};
-use image::{put_number, Record, BANK, RECORD};
+use image::{number, put_number, Record, BANK, RECORD};
 
 /// What an insert puts in the place of the last record's value.
 pub const VALUE: &[u8] = b"another value of 19";
@@ -31,7 +29,6 @@ impl Lent {
         }
     }
 
-    /// Answers 1 if it was opened.
     pub fn open(&mut self, image: &[u8]) -> u32 {
         let answer = feqyondil::lent::open(image, &mut self.state, &mut self.work);
         self.end = self.active() * PART_SIZE + self.total();
@@ -47,7 +44,6 @@ impl Lent {
         number(&self.state, self.entry() + ENTRY_TOTAL) as usize
     }
 
-    /// Where the active bank's entry is.
     fn entry(&self) -> usize {
         STATE_ENTRIES + ENTRY_SIZE * self.active()
     }
@@ -59,18 +55,15 @@ impl Lent {
         out[1] as u32
     }
 
-    /// Answers 1 if the last record was killed; takes the insert back.
-    pub fn insert(&mut self, key: &[u8]) -> u32 {
+    /// Inserts over the last record, commits if `COMMIT`, and takes the insert back.
+    pub fn insert<const COMMIT: bool>(&mut self, key: &[u8]) -> u32 {
         let before = self.state;
         feqyondil::lent::insert(&mut self.state, &mut self.work, key, VALUE, 1);
-        self.take_back(key, before)
-    }
-
-    fn take_back(&mut self, key: &[u8], before: [u8; STATE_SIZE]) -> u32 {
+        let done = if COMMIT { self.commit(key) } else { 1 };
         let len = RECORD + key.len() + 1 + VALUE.len();
         self.work[self.end..self.end + len].fill(0xFF);
         self.state = before;
-        self.revive()
+        done & self.revive()
     }
 
     pub fn remove(&mut self, key: &[u8]) -> u32 {
@@ -78,39 +71,27 @@ impl Lent {
         self.revive()
     }
 
-    /// Answers 1 if it was accepted.
-    pub fn commit(&mut self) -> u32 {
-        let mut requests = [0; 4];
+    pub fn commit(&mut self, _: &[u8]) -> u32 {
         let (state, work) = (&mut self.state, &mut self.work);
-        let number = feqyondil::lent::commit(state, work, &mut self.output, &mut requests);
+        let number = feqyondil::lent::commit(state, work, &mut self.output, &mut [0; 4]);
         u32::from(number == 0)
     }
 
-    /// Inserts over the last record, commits, and takes the insert back.
-    pub fn insert_commit(&mut self, key: &[u8]) -> u32 {
-        let before = self.state;
-        feqyondil::lent::insert(&mut self.state, &mut self.work, key, VALUE, 1);
-        self.commit() & self.take_back(key, before)
-    }
-
     /// With one byte less usable than there are records, which makes the bank move.
-    pub fn commit_moved(&mut self) -> u32 {
+    pub fn commit_moved(&mut self, key: &[u8]) -> u32 {
         let (usable, total) = (self.entry() + ENTRY_USABLE, self.total());
         put_number(&mut self.state, usable, total as u32 - 1);
-        self.commit()
+        self.commit(key)
     }
 
-    /// Answers the length.
-    pub fn whole(&mut self) -> u32 {
+    pub fn whole(&mut self, _: &[u8]) -> u32 {
         let mut length = [0];
         feqyondil::lent::whole_image(&self.state, &self.work, &mut self.output, &mut length);
-        length[0] as u32
+        u32::from(length[0] == self.output.len() as u64)
     }
 
     fn revive(&mut self) -> u32 {
         let state = &mut self.work[self.end - self.last + 2];
-        let killed = *state == 0x7C;
-        *state = 0x7F;
-        u32::from(killed)
+        u32::from(std::mem::replace(state, 0x7F) == 0x7C)
     }
 }

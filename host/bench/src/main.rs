@@ -3,46 +3,38 @@
 
 mod blocks;
 mod bytewise;
+mod case;
 mod checksum;
-mod commit;
 mod lent;
 mod measure;
 mod partition;
 mod store;
+mod trusting;
 
-use std::env;
-use std::process::ExitCode;
-use std::time::Duration;
+use clap::Parser;
 
-use measure::Effort;
+use measure::Report;
 
-const SHORT: Effort = Effort {
-    rounds: 15,
-    batch: Duration::from_millis(1),
-};
-const LONG: Effort = Effort {
-    rounds: 101,
-    batch: Duration::from_millis(4),
-};
+#[derive(Parser)]
+#[command(about = "Times the Rust and the port in turns, and says which bars the port meets")]
+struct Words {
+    /// More and longer rounds: some 90 seconds in place of 4
+    #[arg(long)]
+    long: bool,
+}
 
-fn main() -> ExitCode {
-    let words: Vec<String> = env::args().skip(1).collect();
-    let effort = match words.iter().map(String::as_str).collect::<Vec<_>>()[..] {
-        [] => SHORT,
-        ["--long"] => LONG,
-        _ => {
-            eprintln!("usage: bench [--long]");
-            return ExitCode::from(2);
-        }
+fn main() {
+    let Words { long } = Words::parse();
+    let (rounds, ms) = if long { (101, 4) } else { (15, 1) };
+    println!("bench: {rounds} rounds after a warm-up, each a batch of {ms} ms or more a contender");
+    println!("bench: medians of the rounds; 'x first' is the time over the first contender's");
+    let show = |kind, run: fn(&mut Report)| {
+        let mut report = Report::new(kind, rounds, ms);
+        run(&mut report);
+        report.print_bars();
     };
-    println!(
-        "bench: {} rounds, each of one batch a contender of {} ms or more, after one to warm up",
-        effort.rounds,
-        effort.batch.as_millis()
-    );
-    checksum::run(effort);
-    partition::run(effort);
-    store::run(effort);
-    commit::run(effort);
-    ExitCode::SUCCESS
+    show("checksum", checksum::run);
+    show("bank", partition::run);
+    show("store", store::run);
+    show("commit", store::run_commits);
 }
