@@ -8,6 +8,10 @@ export NVRAM_RUST
 DEBIAN_CRATES=${DEBIAN_CRATES:-/usr/share/cargo/registry}
 # As host/Cargo.toml says.
 OLDEST_RUST=1.70
+# What the Rust and the judge are built with: each in Debian's package librust-NAME-dev. What proptest needs for std is a package of its own.
+CRATES=(adler32 clap crc32fast indicatif proptest rand)
+PACKAGES=("${CRATES[@]/%/-dev}" proptest+std-dev)
+PACKAGES=("${PACKAGES[@]/#/librust-}")
 
 has_papers() {
     local name
@@ -17,7 +21,13 @@ has_papers() {
 }
 
 has_cargo() { command -v cargo >/dev/null && command -v rustc >/dev/null; }
-has_crate() { compgen -G "$DEBIAN_CRATES/$1-*" >/dev/null; }
+# quick-error comes with proptest's package for std.
+has_crates() {
+    local name
+    for name in "${CRATES[@]}" quick-error; do
+        compgen -G "$DEBIAN_CRATES/$name-[0-9]*" >/dev/null || return 1
+    done
+}
 
 # What the comparison with the Rust lacks and how to get it, in one line; nothing if it is complete.
 judge_lacks() {
@@ -29,8 +39,8 @@ judge_lacks() {
     elif version=$(rustc --version | cut -d' ' -f2) &&
         ! printf '%s\n' "$OLDEST_RUST" "$version" | sort -VC; then
         echo "rustc $OLDEST_RUST or later, and this is $version; on Debian 12 install the package cargo-web"
-    elif ! has_crate crc32fast || ! has_crate adler32; then
-        echo "the Rust's crates; install Debian's packages librust-crc32fast-dev and librust-adler32-dev"
+    elif ! has_crates; then
+        echo "crates that the Rust and the judge use; install Debian's packages ${PACKAGES[*]}"
     fi
 }
 
@@ -41,9 +51,9 @@ cargo_package() {
 
 install_packages() {
     apt-get update -qq || return 1
-    local packages=(librust-crc32fast-dev librust-adler32-dev)
+    local packages=("${PACKAGES[@]}")
     has_cargo || packages+=("$(cargo_package)")
-    DEBIAN_FRONTEND=noninteractive apt-get install -qq -y "${packages[@]}" >/dev/null
+    DEBIAN_FRONTEND=noninteractive apt-get install -qq -y --no-install-recommends "${packages[@]}" >/dev/null
 }
 
 # Installs what is missing where that is allowed; then `lacks` says what still is.

@@ -1,135 +1,118 @@
 //! The differential runner: the Rust and the port on the same inputs.
-//!
-//! A module for each thing compared; `compare` and `shrink` serve them all.
 
-mod checksum;
 mod compare;
-mod mode;
-mod opening;
+mod describe;
+mod judge;
 mod partition;
-mod rng;
-mod shrink;
 mod store;
 
-use std::env;
 use std::fs;
+use std::path::PathBuf;
 use std::process::ExitCode;
 use std::time::{Instant, SystemTime, UNIX_EPOCH};
 
-use mode::Mode;
+use clap::Parser;
 
-const USAGE: &str = "usage: differ [--long | --memcheck | --write-replay FILE] [--seed N]
-  --long               many more inputs
-  --memcheck           few inputs, with buffers that a memory checker can watch
-  --write-replay FILE  writes the fixed list of the oracle's answers, and compares nothing
-  --seed N             the seed of the random inputs (long: taken from the clock; else 1)";
+use judge::{Judge, Mode};
 
-/// What to do.
-#[derive(Debug, PartialEq)]
-enum Task {
-    Compare(Mode),
-    Memcheck,
-    WriteReplay(String),
+/// Where failures that were found are kept, to be tried first.
+const KEPT: &str = concat!(env!("CARGO_MANIFEST_DIR"), "/regressions");
+
+/// Compares the port with the Rust and with the scope paper's words on the same inputs.
+#[derive(Debug, Parser)]
+struct Arguments {
+    /// Many more inputs
+    #[arg(long, conflicts_with = "memcheck")]
+    long: bool,
+    /// Few inputs, with buffers that a memory checker can watch
+    #[arg(long)]
+    memcheck: bool,
+    /// The seed of the random inputs [default: 1, and with --long one from the clock]
+    #[arg(long, value_name = "N")]
+    seed: Option<u64>,
+    /// Only what is compared under this name, the first word or words of a line that is printed
+    #[arg(long, value_name = "NAME")]
+    only: Option<String>,
+    /// Writes the fixed list of the oracle's answers, and compares nothing
+    #[arg(long, value_name = "FILE", exclusive = true)]
+    write_replay: Option<PathBuf>,
 }
 
-impl Task {
-    fn name(&self) -> &'static str {
-        match self {
-            Task::Compare(mode) => mode.pick("short mode", "long mode"),
-            Task::Memcheck => "for a memory checker",
-            Task::WriteReplay(_) => "the fixed list",
+impl Arguments {
+    fn mode(&self) -> Mode {
+        match (self.long, self.memcheck) {
+            (true, _) => Mode::Long,
+            (_, true) => Mode::Memcheck,
+            _ => Mode::Short,
         }
+    }
+
+    /// The short mode is part of the tests and repeats; the long one looks somewhere new.
+    fn seed(&self) -> u64 {
+        let clock = || SystemTime::now().duration_since(UNIX_EPOCH);
+        let nanos = || clock().map_or(1, |since| since.as_nanos() as u64);
+        self.seed.unwrap_or_else(|| if self.long { nanos() } else { 1 })
     }
 }
 
 fn main() -> ExitCode {
-    let Some((task, seed)) = arguments(env::args().skip(1)) else {
-        eprintln!("{USAGE}");
-        return ExitCode::from(2);
+    let arguments = Arguments::parse();
+    let done = match &arguments.write_replay {
+        Some(file) => write_replay(file),
+        None => compare_all(&arguments),
     };
-    if let Task::WriteReplay(file) = &task {
-        return ended(write_replay(file));
-    }
-    println!("differ: {}, seed {seed}", task.name());
+    let (message, code) = match done {
+        Ok(message) => (message, ExitCode::SUCCESS),
+        Err(message) => (message, ExitCode::FAILURE),
+    };
+    println!("differ: {message}");
+    code
+}
+
+fn compare_all(arguments: &Arguments) -> Result<String, String> {
+    let (mode, seed) = (arguments.mode(), arguments.seed());
+    println!("differ: {mode:?} mode, seed {seed}");
     let start = Instant::now();
-    let done = run(&task, seed).map(|inputs| {
-        let seconds = start.elapsed().as_secs_f64();
-        format!("{inputs} inputs in {seconds:.1} s, no difference")
-    });
-    ended(done.map_err(|message| format!("{message}\ndiffer: FAILED (seed {seed})")))
-}
-
-fn ended(done: Result<String, String>) -> ExitCode {
-    match done {
-        Ok(message) => {
-            println!("differ: {message}");
-            ExitCode::SUCCESS
-        }
-        Err(message) => {
-            println!("differ: {message}");
-            ExitCode::FAILURE
-        }
+    let mut judge = Judge::new(mode, seed);
+    judge.kept = Some(KEPT.to_string());
+    judge.only = arguments.only.clone();
+    // What failed before is tried before all else.
+    for only_kept in [true, false] {
+        judge.only_kept = only_kept;
+        compare::all(&mut judge).map_err(|why| format!("{why}\ndiffer: FAILED (seed {seed})"))?;
     }
-}
-
-/// Every comparison; the count of inputs, or what to say of the first difference.
-fn run(task: &Task, seed: u64) -> Result<u64, String> {
-    let mut rng = rng::Rng::new(seed);
-    let mode = match task {
-        Task::Compare(mode) => *mode,
-        _ => return store::memcheck(&mut rng),
-    };
-    opening::run()?;
-    let sums = checksum::run(mode, &mut rng).map_err(|difference| difference.to_string())?;
-    let banks = partition::run(mode, &mut rng)?;
-    Ok(sums + banks + store::run(mode, &mut rng)?)
-}
-
-fn write_replay(file: &str) -> Result<String, String> {
-    let text = store::replay_text()?;
-    fs::write(file, &text).map_err(|e| format!("{file}: {e}"))?;
-    Ok(format!("{} lines written to {file}", text.lines().count()))
-}
-
-fn arguments(mut words: impl Iterator<Item = String>) -> Option<(Task, u64)> {
-    let (mut task, mut seed) = (Task::Compare(Mode::Short), None);
-    while let Some(word) = words.next() {
-        match word.as_str() {
-            "--long" => task = Task::Compare(Mode::Long),
-            "--memcheck" => task = Task::Memcheck,
-            "--write-replay" => task = Task::WriteReplay(words.next()?),
-            "--seed" => seed = Some(words.next()?.parse().ok()?),
-            _ => return None,
-        }
+    let (inputs, seconds) = (judge.inputs, start.elapsed().as_secs_f64());
+    if inputs == 0 {
+        return Err("nothing is compared under this name".to_string());
     }
-    // The short mode is part of the tests and repeats; the long one looks somewhere new.
-    let long = task == Task::Compare(Mode::Long);
-    Some((task, seed.unwrap_or_else(|| if long { clock() } else { 1 })))
+    Ok(format!("{inputs} inputs in {seconds:.1} s, no difference"))
 }
 
-fn clock() -> u64 {
-    let now = SystemTime::now().duration_since(UNIX_EPOCH);
-    now.map_or(1, |since| since.as_nanos() as u64)
+fn write_replay(file: &PathBuf) -> Result<String, String> {
+    let text = store::fixed::text()?;
+    let name = file.display();
+    fs::write(file, &text).map_err(|e| format!("{name}: {e}"))?;
+    Ok(format!("{} lines written to {name}", text.lines().count()))
 }
 
 #[cfg(test)]
 mod tests {
     use super::*;
 
-    fn parsed(words: &str) -> Option<(Task, u64)> {
-        arguments(words.split_whitespace().map(String::from))
+    fn parsed(words: &str) -> Option<(Mode, u64)> {
+        let words = ["differ"].into_iter().chain(words.split_whitespace());
+        let arguments = Arguments::try_parse_from(words).ok()?;
+        Some((arguments.mode(), arguments.seed()))
     }
 
     #[test]
     fn arguments_are_read() {
-        let compare = |mode, seed| Some((Task::Compare(mode), seed));
-        assert_eq!(parsed(""), compare(Mode::Short, 1));
-        assert_eq!(parsed("--seed 9 --long"), compare(Mode::Long, 9));
-        assert_eq!(parsed("--memcheck"), Some((Task::Memcheck, 1)));
-        let list = Task::WriteReplay("list".to_string());
-        assert_eq!(parsed("--write-replay list"), Some((list, 1)));
-        for wrong in ["--seed", "--seed x", "--wide", "--write-replay"] {
-            assert_eq!(parsed(wrong), None);
+        assert_eq!(parsed(""), Some((Mode::Short, 1)));
+        assert_eq!(parsed("--seed 9 --long"), Some((Mode::Long, 9)));
+        assert_eq!(parsed("--memcheck --only store"), Some((Mode::Memcheck, 1)));
+        for wrong in ["--seed", "--seed x", "--wide", "--write-replay f --long"] {
+            assert_eq!(parsed(wrong), None, "{wrong}");
         }
+        assert_ne!(parsed("--long"), Some((Mode::Long, 1)));
     }
 }

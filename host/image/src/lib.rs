@@ -1,11 +1,15 @@
 //! Banks made from the layout's description, by no code of either side.
 
+use std::fmt::{self, Debug, Formatter};
+
 /// Bytes of a bank.
 pub const BANK: usize = 65_536;
 /// Bytes of a bank's header.
 pub const HEADER: usize = 24;
 /// Bytes of a record before its name.
 pub const RECORD: usize = 36;
+/// More bytes than these are counted, not printed.
+const PRINTED: usize = 32;
 
 pub const SYSTEM_GUID: [u8; 16] = [
     0x40, 0xA0, 0xDD, 0xD2, 0x77, 0xF8, 0x43, 0x92, 0xB4, 0xA3, 0x1E, 0x73, 0x04, 0x20, 0x65, 0x16,
@@ -43,6 +47,10 @@ impl Default for Header {
 }
 
 impl Header {
+    pub fn new(size: u32, generation: u32) -> Self {
+        Header { size, generation, ..Header::default() }
+    }
+
     pub fn bytes(&self) -> Vec<u8> {
         let mut out = b"3VVN".to_vec();
         out.extend(self.size.to_le_bytes());
@@ -54,40 +62,76 @@ impl Header {
     }
 }
 
-/// A record with its right lengths and checksum; by default a live system record, empty.
-#[derive(Clone, Debug, PartialEq)]
-pub struct Record {
+/// A record with its right lengths and checksum; by default a live system record, empty. Its bytes
+/// are owned, lent or described.
+#[derive(Clone, PartialEq)]
+pub struct Record<B = Vec<u8>> {
     pub state: u8,
     pub reserved: u8,
     pub attributes: u32,
     pub guid: [u8; 16],
-    pub key: Vec<u8>,
+    pub key: B,
     pub closing: u8,
-    pub value: Vec<u8>,
+    pub value: B,
 }
 
-impl Default for Record {
+impl<B: Default> Default for Record<B> {
     fn default() -> Self {
         Record {
             state: 0x7F,
             reserved: 0,
             attributes: 0,
             guid: SYSTEM_GUID,
-            key: Vec::new(),
+            key: B::default(),
             closing: 0,
-            value: Vec::new(),
+            value: B::default(),
         }
+    }
+}
+
+impl<B> Record<B> {
+    /// The same with other bytes for key and value.
+    pub fn map<C>(&self, bytes: impl Fn(&B) -> C) -> Record<C> {
+        Record {
+            state: self.state,
+            reserved: self.reserved,
+            attributes: self.attributes,
+            guid: self.guid,
+            key: bytes(&self.key),
+            closing: self.closing,
+            value: bytes(&self.value),
+        }
+    }
+}
+
+/// What a reader needs to see: bytes that have no say are left out where they are 0.
+impl<B: Debug> Debug for Record<B> {
+    fn fmt(&self, f: &mut Formatter) -> fmt::Result {
+        let mut out = f.debug_struct("Record");
+        match self.guid {
+            SYSTEM_GUID => out.field("guid", &format_args!("system")),
+            COMMON_GUID => out.field("guid", &format_args!("common")),
+            other => out.field("guid", &format_args!("{:032x}", u128::from_be_bytes(other))),
+        };
+        out.field("state", &format_args!("{:#04x}", self.state))
+            .field("key", &self.key)
+            .field("value", &self.value);
+        let rest = [
+            ("attributes", self.attributes),
+            ("reserved", self.reserved.into()),
+            ("closing", self.closing.into()),
+        ];
+        for (name, number) in rest.iter().filter(|(_, number)| *number != 0) {
+            out.field(name, &format_args!("{number:#x}"));
+        }
+        out.finish()
     }
 }
 
 impl Record {
     /// A live system record.
     pub fn live(key: &[u8], value: &[u8]) -> Self {
-        Record {
-            key: key.to_vec(),
-            value: value.to_vec(),
-            ..Record::default()
-        }
+        Record { key: key.to_vec(), value: value.to_vec(), ..Record::default() }
     }
 
     pub fn bytes(&self) -> Vec<u8> {
@@ -130,6 +174,17 @@ pub fn number(bytes: &[u8], at: usize) -> u32 {
 /// Puts a little-endian number of four bytes at `at`.
 pub fn put_number(bytes: &mut [u8], at: usize, number: u32) {
     bytes[at..at + 4].copy_from_slice(&number.to_le_bytes());
+}
+
+/// Bytes in hex, `-` for none; the front of many.
+pub fn hex(bytes: &[u8]) -> String {
+    let front = bytes.iter().take(PRINTED);
+    let digits: String = front.map(|b| format!("{b:02x}")).collect();
+    match bytes.len() {
+        0 => "-".to_string(),
+        len if len > PRINTED => format!("{digits}.. of {len} bytes"),
+        _ => digits,
+    }
 }
 
 #[cfg(test)]

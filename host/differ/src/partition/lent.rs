@@ -1,14 +1,13 @@
 //! The port's reading of a bank: both calls, and all that they are to leave alone.
 
 use feqyondil::{partition_parse, partition_serialize};
-use image::{is_erased, BANK};
+use image::{is_erased, Header, BANK};
 
-use super::view::{Bank, Header, Slot};
-use super::written;
-use crate::rng::Rng;
+use super::slot::Slot;
+use super::{written, Read};
 
 /// Bytes before and after the part that nobody lent.
-const GUARD: usize = 64;
+pub const GUARD: usize = 64;
 /// What the part and its guards hold before a call.
 const BEFORE: u8 = 0xA5;
 
@@ -25,27 +24,8 @@ pub struct Lending {
     pub short: usize,
 }
 
-impl Lending {
-    pub const PLAIN: Lending = Lending {
-        start: 0,
-        nvr: BANK,
-        part: BANK,
-        short: BANK - 1,
-    };
-
-    pub fn random(rng: &mut Rng) -> Self {
-        let more = rng.below(BANK) + 1;
-        Lending {
-            start: rng.below(GUARD),
-            nvr: BANK + rng.pick(&[0, 1, 36, more, BANK]),
-            part: BANK + rng.pick(&[0, 1, more, BANK]),
-            short: rng.pick(&[0, 1, 24, BANK - 1, BANK - more]),
-        }
-    }
-}
-
 /// How the port reads the first bank of `image`; what it writes stays in `buffer`.
-pub fn read<'a>(image: &[u8], how: Lending, buffer: &'a mut Vec<u8>) -> Result<Slot<'a>, String> {
+pub fn read<'a>(image: &[u8], how: Lending, buffer: &'a mut Vec<u8>) -> Read<'a> {
     buffer.clear();
     buffer.resize(how.part + 2 * GUARD, BEFORE);
     short_calls(image, how, &mut buffer[GUARD..GUARD + how.part])?;
@@ -86,7 +66,7 @@ fn untouched(bytes: &[u8]) -> Result<(), String> {
     Err("it wrote where it was not to".to_string())
 }
 
-fn view(slot: feqyondil::Slot, part: &[u8]) -> Result<Slot<'_>, String> {
+fn view(slot: feqyondil::Slot, part: &[u8]) -> Read<'_> {
     let bank = match slot {
         feqyondil::Slot::Short => return Err("it answers Short".to_string()),
         feqyondil::Slot::Empty => return erased(part, Slot::Empty),
@@ -100,20 +80,16 @@ fn view(slot: feqyondil::Slot, part: &[u8]) -> Result<Slot<'_>, String> {
         flags: bank.flags,
         system_limit: bank.system_limit,
         common_limit: bank.common_limit,
+        ..Header::default()
     };
-    let (header, records) = written::read(part, bank.total)?;
-    if header != told {
-        return Err(format!("it writes {header} and answers {told}"));
+    let bank = written::read(part, bank.total, bank.usable)?;
+    match bank.header == told {
+        true => Ok(Slot::Valid(bank)),
+        false => Err(format!("it writes {:?} and answers {told:?}", bank.header)),
     }
-    Ok(Slot::Valid(Bank {
-        header,
-        records,
-        total: bank.total,
-        usable: bank.usable,
-    }))
 }
 
-fn erased<'a>(part: &[u8], slot: Slot<'a>) -> Result<Slot<'a>, String> {
+fn erased<'a>(part: &[u8], slot: Slot<&'a [u8]>) -> Read<'a> {
     if is_erased(part) {
         return Ok(slot);
     }
@@ -134,7 +110,7 @@ mod tests {
 
     #[test]
     fn a_part_that_is_not_as_answered_is_seen() {
-        let mut part = image::bank(&image::Header::default(), &[]);
+        let mut part = image::bank(&Header::default(), &[]);
         let answered = partition_parse(&part);
         assert!(view(answered, &part).is_ok());
         assert!(view(feqyondil::Slot::Empty, &part).is_err());

@@ -1,13 +1,13 @@
 //! What a bank is by the words of the scope paper (01), 'Bank and record': written from
 //! them and from neither side's code, so that it can judge the port where the Rust cannot.
 
-use image::number;
+use image::{number, Header, Record};
 
-use super::view::{Bank, Header, Record, Slot};
+use super::slot::{Bank, Slot};
 
 /// A bank as 01 reads it.
 pub struct Reading<'a> {
-    pub slot: Slot<'a>,
+    pub slot: Slot<&'a [u8]>,
     /// Why the bank lies outside the domain on which the Rust and the port are equal, if it does.
     pub outside: Option<Outside>,
 }
@@ -24,7 +24,7 @@ pub enum Outside {
 
 /// What the walk meets at an offset.
 enum Met<'a> {
-    Record(Record<'a>, usize),
+    Record(Record<&'a [u8]>, usize),
     Stop { usable: usize },
     TooLong,
     NoName,
@@ -37,10 +37,10 @@ pub fn read(bank: &[u8]) -> Reading<'_> {
     if &bank[..4] != b"3VVN" || bank[14] != 1 {
         let erased = bank.iter().all(|&b| b == 0xFF);
         let slot = if erased { Slot::Empty } else { Slot::Invalid };
-        return inside(slot);
+        return reading(slot, None);
     }
     if !(24..=65_536).contains(&size) {
-        return outside(Slot::Invalid, Outside::Size);
+        return reading(Slot::Invalid, Some(Outside::Size));
     }
     walk(bank, size as usize)
 }
@@ -48,7 +48,7 @@ pub fn read(bank: &[u8]) -> Reading<'_> {
 fn walk(bank: &[u8], size: usize) -> Reading<'_> {
     let mut records = Vec::new();
     let mut offset = 24;
-    let (mut usable, mut out) = (size, None);
+    let (mut usable, mut outside) = (size, None);
     while offset + 36 < size {
         match meet(bank, size, offset) {
             Met::Record(record, len) => {
@@ -57,19 +57,14 @@ fn walk(bank: &[u8], size: usize) -> Reading<'_> {
                 continue;
             }
             Met::Stop { usable: at } => usable = at,
-            Met::TooLong => (usable, out) = (offset, Some(Outside::Sum)),
-            Met::NoName => return outside(Slot::Invalid, Outside::Name),
-            Met::WrongCrc => return inside(Slot::Invalid),
+            Met::TooLong => (usable, outside) = (offset, Some(Outside::Sum)),
+            Met::NoName => return reading(Slot::Invalid, Some(Outside::Name)),
+            Met::WrongCrc => return reading(Slot::Invalid, None),
         }
         break;
     }
-    let slot = Slot::Valid(Bank {
-        header: header(bank),
-        records,
-        total: offset,
-        usable,
-    });
-    Reading { slot, outside: out }
+    let slot = Slot::Valid(Bank { header: header(bank), records, usable });
+    reading(slot, outside)
 }
 
 fn meet(bank: &[u8], size: usize, offset: usize) -> Met<'_> {
@@ -94,14 +89,13 @@ fn meet(bank: &[u8], size: usize, offset: usize) -> Met<'_> {
         return Met::NoName;
     }
     let (name, value) = bank[offset + 36..offset + len].split_at(name as usize);
-    let record = record(head, &name[..name.len() - 1], value);
-    if crc32fast::hash(value) != record.crc {
+    if crc32fast::hash(value) != number(head, 32) {
         return Met::WrongCrc;
     }
-    Met::Record(record, len)
+    Met::Record(record(head, &name[..name.len() - 1], value), len)
 }
 
-/// The fields of the header that begins `bank`.
+/// The fields of the header that begins `bank`, of version 1.
 pub fn header(bank: &[u8]) -> Header {
     Header {
         size: number(bank, 4),
@@ -110,27 +104,22 @@ pub fn header(bank: &[u8]) -> Header {
         flags: bank[13],
         system_limit: number(bank, 16),
         common_limit: number(bank, 20),
+        ..Header::default()
     }
 }
 
 /// The fields of a record's header, with its key and its value.
-pub fn record<'a>(head: &'a [u8], key: &'a [u8], value: &'a [u8]) -> Record<'a> {
+pub fn record<'a>(head: &[u8], key: &'a [u8], value: &'a [u8]) -> Record<&'a [u8]> {
     Record {
         state: head[2],
         attributes: number(head, 4),
-        guid: &head[16..32],
+        guid: head[16..32].try_into().expect("16 bytes"),
         key,
         value,
-        crc: number(head, 32),
+        ..Record::default()
     }
 }
 
-fn inside(slot: Slot) -> Reading {
-    let outside = None;
-    Reading { slot, outside }
-}
-
-fn outside(slot: Slot, why: Outside) -> Reading {
-    let outside = Some(why);
+fn reading(slot: Slot<&[u8]>, outside: Option<Outside>) -> Reading<'_> {
     Reading { slot, outside }
 }

@@ -1,94 +1,22 @@
-//! The comparison can fail: faults planted in the port's answer are found and made small.
+//! The inputs of docs/DIFFERENCES.md, 'Bank': there the Rust does as is said.
 
-use image::{put_number, Header, Record};
+use image::{put_number, Header, BANK, HEADER};
 
-use super::model::Outside;
-use super::*;
+use super::lent::{self, Lending};
+use super::model::{self, Outside};
+use super::rust;
 
-fn judged(port: PortReader, bank: &[u8]) -> Outcome {
-    let mut rng = Rng::new(3);
-    Judge::new(port, &mut rng).judge(bank, &mut rng)
-}
-
-fn many_records() -> Vec<u8> {
-    let records = [b"one", b"two", b"six"].map(|key| Record::live(key, b"a value"));
-    image::bank(&Header::default(), &records)
-}
-
-/// A port whose usable is one too many behind two records or more.
-fn usable_off<'a>(image: &[u8], how: Lending, buffer: &'a mut Vec<u8>) -> Result<Slot<'a>, String> {
-    let mut slot = lent::read(image, how, buffer)?;
-    if let Slot::Valid(bank) = &mut slot {
-        bank.usable += usize::from(bank.records.len() > 1);
-    }
-    Ok(slot)
-}
-
-/// A port that takes a bank of generation 7 or more for Invalid.
-fn kind_off<'a>(image: &[u8], how: Lending, buffer: &'a mut Vec<u8>) -> Result<Slot<'a>, String> {
-    let slot = lent::read(image, how, buffer)?;
-    let off = matches!(&slot, Slot::Valid(bank) if bank.header.generation >= 7);
-    Ok(if off { Slot::Invalid } else { slot })
-}
-
-/// A port that drops a record's attributes.
-fn attributes_off<'a>(
-    image: &[u8],
-    how: Lending,
-    buffer: &'a mut Vec<u8>,
-) -> Result<Slot<'a>, String> {
-    let mut slot = lent::read(image, how, buffer)?;
-    if let Slot::Valid(bank) = &mut slot {
-        bank.records.iter_mut().for_each(|r| r.attributes = 0);
-    }
-    Ok(slot)
-}
-
-#[test]
-fn equal_readings_are_equal() {
-    judged(lent::read, &many_records()).unwrap();
-}
-
-#[test]
-fn a_planted_usable_is_found_and_shrunk() {
-    let message = judged(usable_off, &many_records()).unwrap_err();
-    // A header and two empty records; the closing byte of the second is 0xFF.
-    assert!(message.contains("its first 97 bytes"), "{message}");
-    assert!(message.contains("01:   Valid, total 98, usable 256, "));
-    assert!(message.contains("port: Valid, total 98, usable 257, "));
-}
-
-#[test]
-fn a_planted_kind_is_found_and_shrunk() {
-    let header = Header {
-        generation: 1000,
-        ..Header::default()
-    };
-    let bank = image::bank(&header, &[Record::live(b"key", b"value")]);
-    let message = judged(kind_off, &bank).unwrap_err();
-    // A header up to its version.
-    assert!(message.contains("its first 15 bytes"), "{message}");
-    assert!(message.contains("generation 256, "), "{message}");
-    assert!(message.ends_with("port: Invalid"), "{message}");
-}
-
-#[test]
-fn a_planted_attribute_is_found() {
-    let record = Record {
-        attributes: 1 << 20,
-        ..Record::live(b"key", b"value")
-    };
-    let bank = image::bank(&Header::default(), &[record]);
-    assert!(judged(attributes_off, &bank).is_err());
-    assert!(judged(attributes_off, &many_records()).is_ok());
-}
+const PLAIN: Lending = Lending { start: 0, nvr: BANK, part: BANK, short: 0 };
 
 /// What the Rust does with a bank on which the port does as 01 says, and why it may not be asked.
 fn outside(bank: &[u8]) -> (String, Option<Outside>) {
-    judged(lent::read, bank).unwrap();
-    let judge = Judge::new(lent::read, &mut Rng::new(3));
-    let image = [bank, &judge.next].concat();
-    (text(rust::read(&image)), model::read(bank).outside)
+    let next = image::bank(&Header::new(HEADER as u32, 1), &[]);
+    let image = [bank, &next].concat();
+    let (said, mut buffer) = (model::read(bank), Vec::new());
+    let port = lent::read(&image, PLAIN, &mut buffer);
+    assert_eq!(port, Ok(said.slot));
+    let rust = rust::read(&image).map_or_else(|fault| fault, |slot| slot.to_string());
+    (rust, said.outside)
 }
 
 /// A bank of 0xFF but for signature, size and version.
@@ -108,8 +36,6 @@ fn with_lengths(size: u32, name: u32, value: u32) -> Vec<u8> {
     put_number(&mut bank, 24 + 12, value);
     bank
 }
-
-// The inputs of docs/DIFFERENCES.md, 'Bank': there the Rust does as is said.
 
 #[test]
 fn the_rust_takes_a_size_that_is_too_small() {

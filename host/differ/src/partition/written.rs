@@ -1,13 +1,13 @@
 //! Reads a bank as it was written, by offsets alone: its length is known, and every
 //! byte that has no say must have its fixed value.
 
-use image::{is_erased, number, HEADER, RECORD};
+use image::{is_erased, number, Header, Record, HEADER, RECORD};
 
 use super::model;
-use super::view::{Header, Record};
+use super::slot::Bank;
 
-/// The header and the records in the first `total` bytes; after them all is 0xFF.
-pub fn read(part: &[u8], total: usize) -> Result<(Header, Vec<Record<'_>>), String> {
+/// The bank in the first `total` bytes, after which all is 0xFF; `usable` is told, not written.
+pub fn read(part: &[u8], total: usize, usable: usize) -> Result<Bank<&[u8]>, String> {
     let used = part.get(..total).ok_or("more is used than was written")?;
     if !is_erased(&part[total..]) {
         return Err("a byte behind the records is not 0xFF".to_string());
@@ -21,7 +21,7 @@ pub fn read(part: &[u8], total: usize) -> Result<(Header, Vec<Record<'_>>), Stri
         records.push(record);
         at += len;
     }
-    Ok((header, records))
+    Ok(Bank { header, records, usable })
 }
 
 fn header(used: &[u8]) -> Option<Header> {
@@ -30,14 +30,15 @@ fn header(used: &[u8]) -> Option<Header> {
     fixed.then(|| model::header(head))
 }
 
-fn record(rest: &[u8]) -> Option<(Record<'_>, usize)> {
+fn record(rest: &[u8]) -> Option<(Record<&[u8]>, usize)> {
     let head = rest.get(..RECORD)?;
     let name = number(head, 8) as usize;
     let len = RECORD + name + number(head, 12) as usize;
     let (name, value) = rest.get(RECORD..len)?.split_at(name);
     let (closing, key) = name.split_last()?;
     let fixed = head[..2] == [0xAA, 0x55] && (head[3], *closing) == (0, 0);
-    fixed.then_some((model::record(head, key, value), len))
+    let right = fixed && crc32fast::hash(value) == number(head, 32);
+    right.then(|| (model::record(head, key, value), len))
 }
 
 #[cfg(test)]
@@ -45,30 +46,30 @@ mod tests {
     use super::*;
 
     fn bank(closing: u8) -> Vec<u8> {
-        let record = image::Record {
-            closing,
-            ..image::Record::live(b"rate", b"123456789")
-        };
-        image::bank(&image::Header::default(), &[record])
+        let record = Record { closing, ..Record::live(b"rate", b"123456789") };
+        image::bank(&Header::default(), &[record])
     }
 
     #[test]
     fn a_written_bank_is_read() {
         let bank = bank(0);
-        let (header, records) = read(&bank, 74).unwrap();
-        assert_eq!((header.size, records.len()), (65_536, 1));
-        let (key, value) = (records[0].key, records[0].value);
-        assert_eq!((key, value), (&b"rate"[..], &b"123456789"[..]));
+        let read = read(&bank, 74, 90).unwrap();
+        assert_eq!((read.header, read.usable), (Header::default(), 90));
+        let records: Vec<Record> = read.records.iter().map(|r| r.map(|b| b.to_vec())).collect();
+        assert_eq!(records, [Record::live(b"rate", b"123456789")]);
     }
 
     #[test]
     fn what_is_not_as_written_is_refused() {
-        assert!(read(&bank(1), 74).is_err());
+        assert!(read(&bank(1), 74, 74).is_err());
         for total in [0, 24, 73, 75, 65_537] {
-            assert!(read(&bank(0), total).is_err(), "total {total}");
+            assert!(read(&bank(0), total, 74).is_err(), "total {total}");
         }
-        let mut reserved = bank(0);
-        reserved[15] = 1;
-        assert!(read(&reserved, 74).is_err());
+        // The header's reserved byte, the checksum and the value.
+        for at in [15, 56, 73] {
+            let mut bank = bank(0);
+            bank[at] ^= 1;
+            assert!(read(&bank, 74, 74).is_err(), "at {at}");
+        }
     }
 }

@@ -5,7 +5,6 @@ mod bank;
 mod commit;
 mod edit;
 mod list;
-mod reading;
 pub mod sound;
 
 use super::lent::call::{Answer, Call, What};

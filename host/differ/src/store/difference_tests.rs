@@ -8,8 +8,19 @@ use image::{put_number, BANK};
 
 use super::fuzz::{self, Case};
 use super::lent::call::{Call, What};
-use super::tests::{case, insert, judged, lookup, remove};
-use super::*;
+use super::lent::{Port, Standing};
+use super::run::counts::{Counts, RUST_CALLED, RUST_OPENED};
+use super::run::{compare, Run};
+use super::rust;
+
+/// What is counted of a run on which the port does as 01 says.
+fn judged(image: &[u8], calls: Vec<Call>) -> Counts {
+    compare(&Run::new(image.to_vec(), calls), Port::default()).unwrap()
+}
+
+fn insert(len: usize) -> Call {
+    Call::new(What::Insert(vec![9; len]), b"", 0)
+}
 
 /// A bank of 0xFF but for signature, size 24, version and generation.
 fn plain(generation: u32) -> Vec<u8> {
@@ -29,13 +40,13 @@ fn rust_answers(image: &[u8], call: &Call) -> Result<String, String> {
 fn the_rust_panics_where_the_active_slot_is_not_valid() {
     let image = [vec![0xFF; BANK], plain(0)].concat();
     let panics = Err("it panics".to_string());
-    for call in [lookup(b""), remove(b""), insert(0), commit()] {
+    let [lookup, remove] = [What::Lookup, What::Remove].map(|what| Call::new(what, b"", 1));
+    for call in [lookup, remove, insert(0), commit()] {
         assert_eq!(rust_answers(&image, &call), panics);
-        let run = Run::new(image.clone(), vec![call.clone()]);
-        assert_eq!(judged(&Port, &run).unwrap().numbers[7], 1);
+        assert_eq!(judged(&image, vec![call]).numbers.of(7), 1);
     }
-    let whole = judged(&Port, &Run::new(image, vec![Call::whole(2 * BANK)]));
-    assert_eq!(whole.unwrap().rust_calls, 1);
+    let whole = judged(&image, vec![Call::whole(2 * BANK)]);
+    assert_eq!(whole.others.of(RUST_CALLED), 1);
 }
 
 #[test]
@@ -43,41 +54,37 @@ fn the_rust_opens_more_than_16_banks() {
     let mut image = plain(1);
     image.resize(17 * BANK, 0xFF);
     let none = "0, found 0, place 0, length 0".to_string();
-    assert_eq!(rust_answers(&image, &lookup(b"")), Ok(none));
-    let counts = judged(&Port, &Run::new(image, Vec::new())).unwrap();
-    assert_eq!((counts.runs[2], counts.rust_runs), (1, 0));
+    let lookup = Call::new(What::Lookup, b"", 1);
+    assert_eq!(rust_answers(&image, &lookup), Ok(none));
+    let counts = judged(&image, Vec::new());
+    assert_eq!((counts.openings.of(2), counts.others.of(RUST_OPENED)), (1, 0));
 }
 
 #[test]
 fn the_rust_inserts_past_the_work_area() {
     let image = plain(1);
     assert_eq!(rust_answers(&image, &insert(131_012)), Ok("0".to_string()));
-    let counts = |len| judged(&Port, &Run::new(image.clone(), vec![insert(len)])).unwrap();
+    let counts = |len| judged(&image, vec![insert(len)]);
     let (over, full) = (counts(131_012), counts(131_011));
-    assert_eq!((over.numbers[8], over.rust_calls), (1, 0));
-    assert_eq!((full.numbers[0], full.rust_calls), (1, 1));
+    assert_eq!((over.numbers.of(8), over.others.of(RUST_CALLED)), (1, 0));
+    assert_eq!((full.numbers.of(0), full.others.of(RUST_CALLED)), (1, 1));
 }
 
 #[test]
 fn what_is_lent_is_checked() {
     let mut run = Run::new(plain(1), Vec::new());
     run.spare = -1;
-    assert_eq!(judged(&Port, &run).unwrap().runs[3], 1);
-    let zeros = Case {
-        state: vec![0; 204],
-        ..case()
-    };
-    assert_eq!(
-        fuzz::compare(&zeros, &Port, Standing::Guarded(0)),
-        Ok(false)
-    );
+    assert_eq!(compare(&run, Port::default()).unwrap().openings.of(3), 1);
+    let zeros = Case { state: vec![0; 204], work: vec![0xFF; 131_072], call: insert(0) };
+    let sound = fuzz::compare(&zeros, Port::default(), Standing::Guarded(0));
+    assert_eq!(sound, Ok(false));
 }
 
 #[test]
 fn the_rust_has_one_word_for_two_refusals() {
     for (image, number) in [(Vec::new(), 1), (vec![0xFF; BANK], 4)] {
-        let counts = judged(&Port, &Run::new(image, Vec::new())).unwrap();
-        assert_eq!((counts.runs[number], counts.rust_runs), (1, 1));
+        let counts = judged(&image, Vec::new());
+        assert_eq!((counts.openings.of(number), counts.others.of(RUST_OPENED)), (1, 1));
     }
 }
 
@@ -99,8 +106,8 @@ fn the_rust_moves_past_the_last_generation() {
     let rust = rust_says(&image, &calls);
     let written = "0, erase 1 at 0, write at 0, length 24, output 3356564e1800000000000000ffff01";
     assert!(rust.starts_with(written), "{rust}");
-    let counts = judged(&Port, &Run::new(image, calls)).unwrap();
-    assert_eq!((counts.numbers[11], counts.rust_calls), (1, 2));
+    let counts = judged(&image, calls);
+    assert_eq!((counts.numbers.of(11), counts.others.of(RUST_CALLED)), (1, 2));
 }
 
 #[test]
@@ -119,16 +126,16 @@ fn the_rust_has_one_word_for_three_refusals() {
         (limited(20), insert(0), 10),
         (unlimited.clone(), insert(BANK), 12),
     ] {
-        let counts = judged(&Port, &Run::new(image, vec![put, commit()])).unwrap();
-        assert_eq!((counts.numbers[number], counts.rust_calls), (1, 2));
+        let counts = judged(&image, vec![put, commit()]);
+        assert_eq!((counts.numbers.of(number), counts.others.of(RUST_CALLED)), (1, 2));
     }
 }
 
 #[test]
 fn an_output_that_is_too_short_is_refused() {
     let calls = vec![Call::commit(BANK - 1), Call::whole(BANK - 1)];
-    let counts = judged(&Port, &Run::new(plain(1), calls)).unwrap();
-    assert_eq!((counts.numbers[5], counts.rust_calls), (2, 0));
+    let counts = judged(&plain(1), calls);
+    assert_eq!((counts.numbers.of(5), counts.others.of(RUST_CALLED)), (2, 0));
 }
 
 /// Set for a process that may not have much memory.
@@ -171,15 +178,11 @@ fn a_whole_image_of_the_rust_never_ends() {
 fn the_rust_pads_until_memory_ends() {
     for (test, last, number) in [
         ("a_commit_of_the_rust_never_ends", commit(), 12),
-        (
-            "a_whole_image_of_the_rust_never_ends",
-            Call::whole(BANK),
-            13,
-        ),
+        ("a_whole_image_of_the_rust_never_ends", Call::whole(BANK), 13),
     ] {
         let said = with_little_memory(test);
         assert!(said.contains("memory allocation of"), "{said}");
-        let counts = judged(&Port, &Run::new(plain(1), padding(last))).unwrap();
-        assert_eq!((counts.numbers[number], counts.rust_calls), (1, 1));
+        let counts = judged(&plain(1), padding(last));
+        assert_eq!((counts.numbers.of(number), counts.others.of(RUST_CALLED)), (1, 1));
     }
 }

@@ -2,6 +2,7 @@
 //! seen, also as text with the oracle's answers, and the bench case of two banks.
 
 mod commits;
+pub mod edges;
 mod pieces;
 mod replay;
 pub mod two_banks;
@@ -51,16 +52,10 @@ fn openings() -> Vec<Named> {
         ("generations-5-3", image(vec![held(5), held(3)])),
         ("generations-0-0", image(vec![held(0), held(0)])),
         ("generations-0-1", image(vec![held(0), held(1)])),
-        (
-            "generations-large",
-            image(vec![held(1), held(u32::MAX), held(1 << 31)]),
-        ),
+        ("generations-large", image(vec![held(1), held(u32::MAX), held(1 << 31)])),
         ("empty-then-0", only(vec![empty(), held(0)])),
         ("invalid-then-0", only(vec![zeros(), held(0)])),
-        (
-            "empty-invalid-valid",
-            image(vec![empty(), zeros(), held(1)]),
-        ),
+        ("empty-invalid-valid", image(vec![empty(), zeros(), held(1)])),
         ("valid-then-empty", image(vec![held(1), empty()])),
     ]
 }
@@ -73,11 +68,7 @@ fn ends() -> Vec<Named> {
     let mut version = ending(BANK, &[]);
     version[14] = 2;
     let mut ignored = ending(BANK, &[]);
-    (
-        ignored[15],
-        ignored[HEADER + 3],
-        ignored[HEADER + RECORD + 4],
-    ) = (255, 255, 255);
+    (ignored[15], ignored[HEADER + 3], ignored[HEADER + RECORD + 4]) = (255, 255, 255);
     let mut wrong = Record::live(b"rate", b"").bytes();
     wrong[0] = 0xAB;
     let mut long = Record::live(b"rate", b"").bytes();
@@ -95,10 +86,7 @@ fn ends() -> Vec<Named> {
         ("over-what-remains", one(BANK, &long)),
         ("wrong-crc-beside", beside(crc)),
         ("version-2-beside", beside(version)),
-        (
-            "reserved-255",
-            Run::new(ignored, vec![put(b"rate", b"1", 1)]),
-        ),
+        ("reserved-255", Run::new(ignored, vec![put(b"rate", b"1", 1)])),
     ]
 }
 
@@ -170,19 +158,10 @@ fn kills() -> Vec<Named> {
     let after = |call: Call, typ| [found(typ), vec![call], found(typ)].concat();
     vec![
         ("three-live-removed", on(&thrice, after(remove(b"k", 1), 1))),
-        (
-            "three-live-replaced",
-            on(&thrice, after(put(b"k", b"4", 1), 1)),
-        ),
-        (
-            "three-live-other-type",
-            on(&thrice, after(put(b"k", b"4", 0), 1)),
-        ),
+        ("three-live-replaced", on(&thrice, after(put(b"k", b"4", 1), 1))),
+        ("three-live-other-type", on(&thrice, after(put(b"k", b"4", 0), 1))),
         ("dead-ones-stay", on(&dead, after(remove(b"k", 1), 1))),
         ("third-guids-removed", on(&guids, after(remove(b"k", 0), 0))),
-        (
-            "third-guids-replaced",
-            on(&guids, after(put(b"k", b"", 0), 0)),
-        ),
+        ("third-guids-replaced", on(&guids, after(put(b"k", b"", 0), 0))),
     ]
 }

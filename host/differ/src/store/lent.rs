@@ -2,8 +2,8 @@
 //! on buffers that show what it wrote.
 
 pub mod call;
-mod port;
+pub mod port;
 pub mod same;
 pub mod state;
 
-pub use port::{Calls, Lent, Port, Standing};
+pub use port::{Lent, Port, Standing};

@@ -6,7 +6,6 @@ mod demand;
 pub mod domain;
 pub mod flash;
 mod input;
-pub mod smallest;
 pub mod wear;
 pub mod wrapper;
 
@@ -14,9 +13,9 @@ use super::book::{Book, PART};
 use super::lent::call::{parting, Answer, Call};
 use super::lent::same::{same_state, same_work};
 use super::lent::state::STATE;
-use super::lent::{Calls, Lent};
+use super::lent::{Lent, Port};
 use super::rust::Rust;
-use counts::Counts;
+use counts::{Counts, MOVES, RUST_CALLED, RUST_OPENED};
 use demand::Watch;
 use domain::{comparable, within};
 
@@ -26,7 +25,7 @@ pub use input::Run;
 const BEFORE: u8 = 0x5A;
 
 /// Runs it on every side; the error is what each says where they differ.
-pub fn compare(run: &Run, port: &dyn Calls) -> Result<Counts, String> {
+pub fn compare(run: &Run, port: Port) -> Result<Counts, String> {
     let before = (vec![BEFORE; run.state], vec![BEFORE; run.work()]);
     let mut lent = Lent::new(port, run.standing, &before.0, &before.1);
     let mut sides = Sides::open(run, before);
@@ -88,7 +87,7 @@ impl<'a> Sides<'a> {
             return Ok(());
         }
         self.rust = Rust::open(&run.image).map_err(|fault| format!("\n  Rust: {fault}"))?;
-        self.counts.rust_runs += 1;
+        self.counts.add(RUST_OPENED, 1);
         match (&self.rust, &self.book) {
             (None, Err(_)) => Ok(()),
             (None, Ok(_)) => Err("\n  Rust: refused\n  01:   0".to_string()),
@@ -102,7 +101,7 @@ impl<'a> Sides<'a> {
             Ok(book) => {
                 let generation = book.generation();
                 let said = book.answer(call);
-                self.counts.moves += u64::from(book.generation() != generation);
+                self.counts.add(MOVES, (book.generation() != generation).into());
                 let within = within(book, &said);
                 (said, book.active_bank().is_some(), within)
             }
@@ -120,9 +119,7 @@ impl<'a> Sides<'a> {
             let parting = port.as_ref().map_or(String::new(), |p| parting(&said, p));
             let rust = rust.map_or("not asked".to_string(), text);
             let port = text(port);
-            return Err(format!(
-                "\n  Rust: {rust}\n  01:   {said}\n  port: {port}{parting}"
-            ));
+            return Err(format!("\n  Rust: {rust}\n  01:   {said}\n  port: {port}{parting}"));
         }
         self.same(lent)?;
         if rust.is_some() {
@@ -168,17 +165,14 @@ impl<'a> Sides<'a> {
         let (Some(rust), Ok(book)) = (&mut self.rust, &self.book) else {
             return Ok(());
         };
-        self.counts.rust_calls += 1;
+        self.counts.add(RUST_CALLED, 1);
         if !matches!(said, Answer::Number(_) | Answer::Commit(..)) {
             return Ok(());
         }
         let at = book.active * PART;
-        same_work(&self.work[at..at + PART], &rust.active_part(), "Rust")?;
-        same_state(
-            &book.state().bytes(),
-            &rust.state(book.tally).bytes(),
-            "Rust",
-        )
+        let has = rust.book(book.tally)?;
+        same_state(&book.state().bytes(), &has.state().bytes(), "Rust")?;
+        same_work(&self.work[at..at + PART], &has.slots[has.active].part(), "Rust")
     }
 
     /// At the end the Rust's other banks too.
@@ -195,12 +189,9 @@ impl<'a> Sides<'a> {
 }
 
 fn whole_as_said(rust: &Rust, book: &Book) -> Result<(), String> {
-    same_state(
-        &book.state().bytes(),
-        &rust.state(book.tally).bytes(),
-        "Rust",
-    )?;
-    same_work(&book.work(), &rust.work(), "Rust")
+    let has = rust.book(book.tally)?;
+    same_state(&book.state().bytes(), &has.state().bytes(), "Rust")?;
+    same_work(&book.work(), &has.work(), "Rust")
 }
 
 fn text(answer: Result<Answer, String>) -> String {
@@ -220,10 +211,10 @@ mod tests {
         let book = Book::open(&image, PART).unwrap();
         assert_eq!(whole_as_said(&rust, &book), Ok(()));
         let mut usable = book.clone();
-        usable.active_bank().unwrap().usable -= 1;
+        usable.active_bank_mut().unwrap().usable -= 1;
         assert!(whole_as_said(&rust, &usable).is_err());
         let mut attributes = book.clone();
-        attributes.active_bank().unwrap().records[0].attributes = 1;
+        attributes.active_bank_mut().unwrap().records[0].attributes = 1;
         assert!(whole_as_said(&rust, &attributes).is_err());
         let mut more = book;
         more.slots.push(Slot::Empty);

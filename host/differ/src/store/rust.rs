@@ -1,4 +1,4 @@
-//! The Rust's store: its answers, and the state and work area that its records amount to.
+//! The Rust's store: its answers, and the book that its records amount to.
 
 mod requests;
 mod told;
@@ -6,12 +6,13 @@ mod told;
 use std::borrow::Cow;
 use std::panic::{catch_unwind, AssertUnwindSafe};
 
-use image::{number, BANK, COMMON_GUID, HEADER, RECORD, SYSTEM_GUID};
+use image::{BANK, COMMON_GUID, HEADER, RECORD, SYSTEM_GUID};
 use oracle::{v3, Nvram, Partition, VarType};
 
-use super::book::{Book, LIVE, PART};
+use super::book::{Bank, Book, Slot, LIVE, PART};
 use super::lent::call::{lent, Answer, Call, What};
-use super::lent::state::{Entry, State, VALID};
+use super::lent::state::{EMPTY, INVALID, VALID};
+use crate::partition::rust::{header, record};
 use requests::Requests;
 use told::Told;
 
@@ -109,51 +110,30 @@ impl<'a> Rust<'a> {
             return call.refused(0);
         };
         let at = peek::place(bank, found).expect("a record of the bank");
-        let before: usize = bank.values[..at].iter().map(|v| bytes(v).len()).sum();
+        let before: usize = bank.values[..at].iter().map(size).sum();
         let name = bank.values[at].header.name_size as usize;
         let place = active * PART + HEADER + before + RECORD + name;
         call.found(place, &found.value())
     }
 
-    /// The state that the store amounts to; the tally is not the Rust's.
-    pub fn state(&self, tally: u32) -> State {
-        let mut state = State {
-            n: self.told.kinds.len() as u32,
-            active: self.told.active as u32,
-            tally,
-            ..State::default()
-        };
-        let banks = peek::valid_banks(&self.store);
-        let mut valid = banks.iter().zip(&self.told.usable);
-        for (entry, &kind) in state.entries.iter_mut().zip(&self.told.kinds) {
-            entry.kind = kind;
-            if kind == VALID {
-                let (bank, &usable) = valid.next().expect("as many banks as kinds");
-                let total = used(bank).len() as u32;
-                *entry = Entry {
-                    kind,
-                    total,
-                    usable,
-                };
+    /// The book that the store amounts to; the tally is not the Rust's.
+    pub fn book(&self, tally: u32) -> Result<Book, String> {
+        let mut valid = peek::valid_banks(&self.store).into_iter().zip(&self.told.usable);
+        let slots = self.told.kinds.iter().map(|&kind| match kind {
+            EMPTY => Ok(Slot::Empty),
+            INVALID => Ok(Slot::Invalid),
+            _ => {
+                let (bank, usable) = valid.next().ok_or("fewer banks than it tells")?;
+                let records = bank.values.iter().map(|v| record(v, |bytes| bytes.to_vec()));
+                Ok(Slot::Valid(Bank {
+                    header: header(&bank.header),
+                    records: records.collect::<Result<_, _>>()?,
+                    usable: *usable as usize,
+                }))
             }
-        }
-        state
-    }
-
-    /// The active bank's part of the work area.
-    pub fn active_part(&mut self) -> Vec<u8> {
-        part(Some(peek::active_bank(&mut self.store)))
-    }
-
-    /// The whole work area.
-    pub fn work(&self) -> Vec<u8> {
-        let banks = peek::valid_banks(&self.store);
-        let mut valid = banks.into_iter();
-        let parts = self.told.kinds.iter().map(|&kind| match kind {
-            VALID => part(valid.next()),
-            _ => part(None),
         });
-        parts.collect::<Vec<_>>().concat()
+        let slots = slots.collect::<Result<_, String>>()?;
+        Ok(Book { active: self.told.active, tally, slots })
     }
 
     /// Whatever was called since a bank last moved changed records only.
@@ -172,7 +152,7 @@ fn refusal(bank: &v3::Partition) -> u32 {
     let over = |guid: &[u8; 16], limit: u32| {
         let live = bank.values.iter().filter(|v| v.header.state == LIVE);
         let section = live.filter(|v| v.header.guid == guid);
-        section.map(|v| bytes(v).len()).sum::<usize>() > limit as usize
+        section.map(size).sum::<usize>() > limit as usize
     };
     match &bank.header {
         header if over(&SYSTEM_GUID, header.system_size) => 9,
@@ -181,38 +161,9 @@ fn refusal(bank: &v3::Partition) -> u32 {
     }
 }
 
-fn part(bank: Option<&v3::Partition>) -> Vec<u8> {
-    let mut out = bank.map_or(Vec::new(), used);
-    out.resize(PART, 0xFF);
-    out
-}
-
-/// A bank's header and records as they would be written.
-fn used(bank: &v3::Partition) -> Vec<u8> {
-    let header = &bank.header;
-    let mut out = b"3VVN".to_vec();
-    out.extend(header.size.to_le_bytes());
-    out.extend(header.generation.to_le_bytes());
-    out.extend([header.state, header.flags, header.version, 0]);
-    out.extend(header.system_size.to_le_bytes());
-    out.extend(header.common_size.to_le_bytes());
-    bank.values.iter().for_each(|v| out.extend(bytes(v)));
-    out
-}
-
-fn bytes(variable: &v3::Variable) -> Vec<u8> {
-    let header = &variable.header;
-    let mut out = vec![0xAA, 0x55, header.state, 0];
-    out.extend(header.attrs.to_le_bytes());
-    out.extend(header.name_size.to_le_bytes());
-    out.extend(header.data_size.to_le_bytes());
-    out.extend(header.guid);
-    out.extend(header.crc.to_le_bytes());
-    out.extend(variable.key.iter());
-    out.push(0);
-    out.extend(variable.value.iter());
-    debug_assert_eq!(number(&out, 8) as usize, variable.key.len() + 1);
-    out
+/// Bytes of a record.
+fn size(variable: &v3::Variable) -> usize {
+    RECORD + variable.key.len() + 1 + variable.value.len()
 }
 
 #[cfg(test)]
@@ -232,12 +183,10 @@ mod tests {
         let mut rust = Rust::open(&image).unwrap().unwrap();
         let remove = Call::new(What::Remove, b"rate", 1);
         assert_eq!(rust.answer(&remove), Ok(Answer::Number(0)));
-        let state = rust.state(7);
+        let book = rust.book(7).unwrap();
+        let (state, work) = (book.state(), book.work());
         assert_eq!((state.n, state.active, state.tally), (3, 1, 7));
-        assert_eq!(state.entries[1].total, 74);
-        let work = rust.work();
-        assert_eq!(work.len(), 3 * PART);
-        assert_eq!(work[PART..2 * PART], rust.active_part());
+        assert_eq!((state.entries[1].total, work.len()), (74, 3 * PART));
         assert_eq!((work[PART + 24 + 2], work[PART + 73]), (0x7C, b'9'));
     }
 

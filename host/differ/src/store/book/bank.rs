@@ -1,28 +1,13 @@
-//! A bank of the book and its slot, with what they come to in state and work area.
-
-use image::{Header, Record, HEADER, RECORD};
+//! What a bank of the book and its slot come to in state and work area.
 
 use crate::store::lent::state::{Entry, EMPTY, INVALID, VALID};
+
+pub use crate::partition::slot::{size, Bank, Slot};
 
 /// Bytes of work area for each bank.
 pub const PART: usize = 131_072;
 
 pub const LIVE: u8 = 0x7F;
-
-#[derive(Clone, Debug, PartialEq)]
-pub enum Slot {
-    Empty,
-    Invalid,
-    Valid(Bank),
-}
-
-/// A Valid bank; its reserved and closing bytes are 0.
-#[derive(Clone, Debug, PartialEq)]
-pub struct Bank {
-    pub header: Header,
-    pub records: Vec<Record>,
-    pub usable: usize,
-}
 
 impl Slot {
     pub fn entry(&self) -> Entry {
@@ -31,11 +16,7 @@ impl Slot {
             Slot::Invalid => (INVALID, 0, 0),
             Slot::Valid(bank) => (VALID, bank.total(), bank.usable),
         };
-        Entry {
-            kind,
-            total: total as u32,
-            usable: usable as u32,
-        }
+        Entry { kind, total: total as u32, usable: usable as u32 }
     }
 
     /// Its part of the work area.
@@ -50,11 +31,6 @@ impl Slot {
 }
 
 impl Bank {
-    /// The header and all records, dead ones too.
-    pub fn total(&self) -> usize {
-        HEADER + self.records.iter().map(size).sum::<usize>()
-    }
-
     /// Header and records as they would be written.
     pub fn bytes(&self) -> Vec<u8> {
         let mut out = Vec::with_capacity(PART);
@@ -62,8 +38,4 @@ impl Bank {
         self.records.iter().for_each(|r| out.extend(r.bytes()));
         out
     }
-}
-
-pub fn size(record: &Record) -> usize {
-    RECORD + record.key.len() + 1 + record.value.len()
 }

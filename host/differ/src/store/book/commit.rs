@@ -16,7 +16,7 @@ impl Book {
         if room < BANK {
             return call.refused(5);
         }
-        let Slot::Valid(bank) = &self.slots[self.active] else {
+        let Some(bank) = self.active_bank() else {
             return call.refused(7);
         };
         let header = &bank.header;
@@ -51,9 +51,7 @@ impl Book {
     fn written(&self, room: usize, erase: Option<usize>) -> Answer {
         let asked = u64::from(erase.is_some());
         let at = erase.unwrap_or(0) as u64;
-        let Slot::Valid(bank) = &self.slots[self.active] else {
-            unreachable!("a commit was refused with 7");
-        };
+        let bank = self.active_bank().expect("a commit is refused with 7");
         match bank.output() {
             Some(bytes) => {
                 let write = [(self.active * BANK) as u64, bytes.len() as u64];
@@ -130,15 +128,8 @@ mod tests {
 
     /// A bank of this size and generation, with a live record of 39 bytes and a dead one.
     fn bank(size: u32, generation: u32) -> Vec<u8> {
-        let header = Header {
-            size,
-            generation,
-            ..Header::default()
-        };
-        let dead = Record {
-            state: 0x7C,
-            ..Record::live(b"d", b"d")
-        };
+        let header = Header::new(size, generation);
+        let dead = Record { state: 0x7C, ..Record::live(b"d", b"d") };
         image::bank(&header, &[dead, Record::live(b"k", b"v")])
     }
 
@@ -192,7 +183,7 @@ mod tests {
         let before = book.clone();
         assert_eq!(requests(&mut book).0, 11);
         assert_eq!(book, before);
-        book.active_bank().unwrap().header.generation = 1;
+        book.active_bank_mut().unwrap().header.generation = 1;
         assert_eq!(requests(&mut book), (12, [1, 0, 0, 0]));
         assert_eq!((book.tally, book.state().entries[0].total), (1, 16_408));
         let whole = Call::whole(BANK);

@@ -2,7 +2,7 @@
 
 use image::{Record, COMMON_GUID, HEADER, RECORD, SYSTEM_GUID};
 
-use super::bank::{size, Bank, Slot, LIVE, PART};
+use super::bank::{size, Bank, LIVE, PART};
 use super::list::Book;
 use crate::store::lent::call::{Answer, Call, What};
 
@@ -10,7 +10,7 @@ const DEAD: u8 = 0x7C;
 
 impl Book {
     pub fn edit(&mut self, call: &Call) -> Answer {
-        let Some(bank) = self.active_bank() else {
+        let Some(bank) = self.active_bank_mut() else {
             return call.refused(7);
         };
         match &call.what {
@@ -28,7 +28,7 @@ impl Book {
     }
 
     pub fn lookup(&self, call: &Call) -> Answer {
-        let Slot::Valid(bank) = &self.slots[self.active] else {
+        let Some(bank) = self.active_bank() else {
             return call.refused(7);
         };
         let Some(at) = bank.records.iter().position(|r| matches(r, call)) else {
@@ -61,11 +61,7 @@ fn fresh(call: &Call, value: &[u8]) -> Record {
         state: LIVE,
         reserved: 0,
         attributes: 0,
-        guid: if call.typ == 0 {
-            COMMON_GUID
-        } else {
-            SYSTEM_GUID
-        },
+        guid: if call.typ == 0 { COMMON_GUID } else { SYSTEM_GUID },
         key: call.key.clone(),
         closing: 0,
         value: value.to_vec(),
@@ -79,10 +75,7 @@ mod tests {
 
     /// A bank with two live records of one key, behind what is before it.
     fn opened(before: &[u8], generation: u32) -> Book {
-        let header = Header {
-            generation,
-            ..Header::default()
-        };
+        let header = Header::new(BANK as u32, generation);
         let records = [Record::live(b"k", b"v"), Record::live(b"k", b"w")];
         let image = [before, &image::bank(&header, &records)].concat();
         Book::open(&image, image.len() / BANK * PART).unwrap()
@@ -100,10 +93,7 @@ mod tests {
         assert_eq!(book.answer(&insert(room - 37)), Answer::Number(8));
         assert_eq!(book.answer(&insert(room - 38)), Answer::Number(0));
         let place = place + 2 * 39;
-        assert_eq!(
-            book.answer(&lookup),
-            Answer::Lookup(0, [1, place, (room - 38) as u64])
-        );
+        assert_eq!(book.answer(&lookup), Answer::Lookup(0, [1, place, (room - 38) as u64]));
         assert_eq!(book.state().entries[0].total as usize, PART);
         book.answer(&call(What::Remove));
         assert_eq!(book.answer(&lookup), Answer::Lookup(0, [0; 3]));

@@ -3,7 +3,6 @@
 use image::BANK;
 
 use super::bank::{Bank, Slot, PART};
-use super::reading::slot;
 use crate::partition::model;
 use crate::store::lent::state::State;
 
@@ -31,18 +30,22 @@ impl Book {
             return Err(3);
         }
         let banks = image.chunks_exact(BANK);
-        let slots: Vec<Slot> = banks.map(|b| slot(&model::read(b).slot)).collect();
+        let slots: Vec<Slot> = banks.map(|b| model::read(b).slot.owned()).collect();
         if !slots.iter().any(|slot| matches!(slot, Slot::Valid(_))) {
             return Err(4);
         }
-        Ok(Book {
-            active: active(&slots),
-            tally: 0,
-            slots,
-        })
+        Ok(Book { active: active(&slots), tally: 0, slots })
     }
 
-    pub fn active_bank(&mut self) -> Option<&mut Bank> {
+    /// Where the active slot is Valid.
+    pub fn active_bank(&self) -> Option<&Bank> {
+        match &self.slots[self.active] {
+            Slot::Valid(bank) => Some(bank),
+            _ => None,
+        }
+    }
+
+    pub fn active_bank_mut(&mut self) -> Option<&mut Bank> {
         match &mut self.slots[self.active] {
             Slot::Valid(bank) => Some(bank),
             _ => None,
@@ -50,7 +53,7 @@ impl Book {
     }
 
     /// The active bank's, which a move raises.
-    pub fn generation(&mut self) -> Option<u32> {
+    pub fn generation(&self) -> Option<u32> {
         self.active_bank().map(|bank| bank.header.generation)
     }
 
@@ -93,11 +96,7 @@ mod tests {
     use image::Header;
 
     fn bank(generation: u32) -> Vec<u8> {
-        let header = Header {
-            generation,
-            ..Header::default()
-        };
-        image::bank(&header, &[])
+        image::bank(&Header::new(BANK as u32, generation), &[])
     }
 
     fn opened(banks: &[Vec<u8>]) -> Book {

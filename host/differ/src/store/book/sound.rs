@@ -4,7 +4,6 @@ use image::{is_erased, BANK, HEADER};
 
 use super::bank::{Bank, Slot, PART};
 use super::list::Book;
-use super::reading::{header, record};
 use crate::partition::written;
 use crate::store::lent::state::{Entry, State, EMPTY, ENTRIES, INVALID, VALID};
 
@@ -19,35 +18,25 @@ pub fn book(state: &[u8], work: &[u8]) -> Option<Book> {
     }
     let banks = state.entries.iter().zip(work.chunks_exact(PART)).take(n);
     let slots = banks.map(|(entry, part)| slot(entry, part));
-    Some(Book {
-        active,
-        tally: state.tally,
-        slots: slots.collect::<Option<_>>()?,
-    })
+    Some(Book { active, tally: state.tally, slots: slots.collect::<Option<_>>()? })
 }
 
 fn slot(entry: &Entry, part: &[u8]) -> Option<Slot> {
-    let bare = (entry.total, entry.usable) == (0, 0) && is_erased(part);
-    match entry.kind {
-        EMPTY if bare => Some(Slot::Empty),
-        INVALID if bare => Some(Slot::Invalid),
-        VALID => bank(entry, part).map(Slot::Valid),
-        _ => None,
-    }
+    let (total, usable) = (entry.total as usize, entry.usable as usize);
+    let bare = (total, usable) == (0, 0) && is_erased(part);
+    let slot = match entry.kind {
+        EMPTY if bare => Slot::Empty,
+        INVALID if bare => Slot::Invalid,
+        // Fixed bytes, checksums, the records' ends and the 0xFF behind them are looked at here.
+        VALID => Slot::Valid(written::read(part, total, usable).ok().filter(in_range)?),
+        _ => return None,
+    };
+    Some(slot.owned())
 }
 
-fn bank(entry: &Entry, part: &[u8]) -> Option<Bank> {
-    let usable = entry.usable as usize;
-    // The fixed bytes, the records' ends and the 0xFF behind them are looked at here.
-    let (head, records) = written::read(part, entry.total as usize).ok()?;
-    let size = head.size as usize;
-    let figures = (HEADER..=BANK).contains(&size) && (HEADER..=size).contains(&usable);
-    let mut checksums = records.iter().map(|r| crc32fast::hash(r.value) == r.crc);
-    (figures && checksums.all(|right| right)).then(|| Bank {
-        header: header(&head),
-        records: records.iter().map(record).collect(),
-        usable,
-    })
+fn in_range(bank: &Bank<&[u8]>) -> bool {
+    let size = bank.header.size as usize;
+    (HEADER..=BANK).contains(&size) && (HEADER..=size).contains(&bank.usable)
 }
 
 #[cfg(test)]
@@ -67,10 +56,7 @@ mod tests {
     fn a_book_comes_back() {
         let (mut state, mut work) = sound();
         let back = book(&state, &work).unwrap();
-        assert_eq!(
-            (&back.state().bytes()[..], back.work()),
-            (&state[..], work.clone())
-        );
+        assert_eq!((&back.state().bytes()[..], back.work()), (&state[..], work.clone()));
         state.push(7);
         work.push(7);
         put_number(&mut state, 8, u32::MAX); // the tally is free
@@ -104,21 +90,8 @@ mod tests {
 
     #[test]
     fn each_fixed_byte_of_the_work_area_matters() {
-        for at in [
-            0,
-            14,
-            15,
-            24,
-            27,
-            56,
-            64,
-            65,
-            73,
-            74,
-            PART - 1,
-            PART,
-            2 * PART - 1,
-        ] {
+        let last = 2 * PART - 1;
+        for at in [0, 14, 15, 24, 27, 56, 64, 65, 73, 74, PART - 1, PART, last] {
             let (state, mut work) = sound();
             work[at] ^= 1;
             assert_eq!(book(&state, &work), None, "at {at}");

@@ -27,10 +27,7 @@ fn in_place() -> Vec<Named> {
         value(b"rate", 1),
     ];
     let second = [held(1), held(2)].concat();
-    let dead = [0x7C, 0x7E, 0x7F].map(|state| Record {
-        state,
-        ..Record::live(b"k", b"v")
-    });
+    let dead = [0x7C, 0x7E, 0x7F].map(|state| Record { state, ..Record::live(b"k", b"v") });
     let dead = image::bank(&Header::default(), &dead);
     let empty = vec![0xFF; BANK];
     let joined = [ending(200, &[]), vec![0; BANK], held(1)].concat();
@@ -38,14 +35,8 @@ fn in_place() -> Vec<Named> {
     vec![
         ("commit-and-whole", on(vec![commit(), whole(1)])),
         ("commit-after-edits", on(twice)),
-        (
-            "commit-second-of-two",
-            Run::new(second, vec![put(b"k", b"v", 0), commit(), whole(2)]),
-        ),
-        (
-            "dead-ones-are-written",
-            Run::new(dead, vec![commit(), remove(b"k", 1), commit()]),
-        ),
+        ("commit-second-of-two", Run::new(second, vec![put(b"k", b"v", 0), commit(), whole(2)])),
+        ("dead-ones-are-written", Run::new(dead, vec![commit(), remove(b"k", 1), commit()])),
         ("whole-of-two-sizes", Run::new(joined, vec![whole(3)])),
         ("whole-without-active", Run::new(no_active, vec![whole(2)])),
     ]
@@ -66,10 +57,7 @@ fn moves() -> Vec<Named> {
         ("move-to-valid", on(vec![held(2), held(1)])),
         ("move-to-the-first", on(vec![held(1), held(2)])),
         ("move-onto-itself", Run::new(held(1), whole_too)),
-        (
-            "move-to-the-last-generation",
-            on(vec![held(u32::MAX - 1), held(3)]),
-        ),
+        ("move-to-the-last-generation", on(vec![held(u32::MAX - 1), held(3)])),
         ("move-round-three", Run::new(three, round.clone().collect())),
         ("move-round-one", Run::new(unlimited(1), round.collect())),
     ]
@@ -78,35 +66,17 @@ fn moves() -> Vec<Named> {
 /// Which records a limit counts.
 fn limits() -> Vec<Named> {
     let limited = |system: u32, common: u32, records: &[Record]| {
-        let header = Header {
-            system_limit: system,
-            common_limit: common,
-            ..Header::default()
-        };
+        let header = Header { system_limit: system, common_limit: common, ..Header::default() };
         image::bank(&header, records)
     };
-    let guid = |guid| Record {
-        guid,
-        ..Record::live(b"k", b"v")
-    };
+    let guid = |guid| Record { guid, ..Record::live(b"k", b"v") };
     let third = limited(0, 0, &[guid([9; 16]), guid([0; 16])]);
     let system = limited(39, 0, &[Record::live(b"k", b"v")]);
     let common = limited(0, 39, &[guid(COMMON_GUID)]);
-    let past = |typ| {
-        vec![
-            commit(),
-            put(b"k", b"vv", typ),
-            commit(),
-            remove(b"k", typ),
-            commit(),
-        ]
-    };
+    let past = |typ| vec![commit(), put(b"k", b"vv", typ), commit(), remove(b"k", typ), commit()];
     let both = vec![put(b"k", b"v", 0), put(b"k", b"v", 1), commit()];
     vec![
-        (
-            "third-guids-count-in-no-limit",
-            Run::new(third, vec![commit()]),
-        ),
+        ("third-guids-count-in-no-limit", Run::new(third, vec![commit()])),
         ("system-limit", Run::new(system, past(1))),
         ("common-limit", Run::new(common, past(0))),
         ("both-limits", Run::new(limited(0, 0, &[]), both)),
@@ -130,10 +100,7 @@ fn over_size() -> Vec<Named> {
     let empty = [unlimited(1), vec![0xFF; BANK]].concat();
     let valid = [unlimited(1), held(1)].concat();
     vec![
-        (
-            "over-after-the-move",
-            Run::new(unlimited(1), over_and_whole),
-        ),
+        ("over-after-the-move", Run::new(unlimited(1), over_and_whole)),
         ("over-after-a-move-to-empty", Run::new(empty, over.clone())),
         ("over-after-a-move-to-valid", Run::new(valid, over)),
     ]
@@ -165,10 +132,7 @@ fn sizes() -> Vec<Named> {
         ("usable-110-moves", Run::new(small(&blank), one.clone())),
         ("usable-74-moves", Run::new(small(&wrong), one)),
         ("usable-74-stays", Run::new(small(&wrong), vec![commit()])),
-        (
-            "dead-past-size-moves",
-            Run::new(dead, vec![commit(), whole(1)]),
-        ),
+        ("dead-past-size-moves", Run::new(dead, vec![commit(), whole(1)])),
     ]
 }
 

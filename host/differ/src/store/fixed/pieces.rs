@@ -13,10 +13,7 @@ const ROOM: usize = PART;
 
 /// A bank of this generation with one live system record, `rate`: 74 bytes.
 pub fn held(generation: u32) -> Vec<u8> {
-    let header = Header {
-        generation,
-        ..Header::default()
-    };
+    let header = Header { generation, ..Header::default() };
     image::bank(&header, &[Record::live(b"rate", b"123456789")])
 }
 

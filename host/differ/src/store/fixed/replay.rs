@@ -73,18 +73,18 @@ fn answers(run: &Run) -> Result<String, String> {
         return Ok(format!("O {number}\nS 0 0 0\n"));
     };
     let mut tally = 0;
-    let mut out = format!("O 0\n{}", left(&rust, tally));
+    let mut out = format!("O 0\n{}", left(&rust, tally)?);
     let mut book = run.opened().map_err(|number| format!("by 01 {number}"))?;
     for call in &run.calls {
         let said = book.answer(call);
-        if !within(&mut book, &said) {
+        if !within(&book, &said) {
             return Err(format!("{call}: not in 01's domain"));
         }
         let answer = rust.answer(call)?;
         tally += u32::from(erase(&answer).is_some());
         out.push_str(&line(call, &answer)?);
         if matches!(answer, Answer::Number(_) | Answer::Commit(..)) {
-            out.push_str(&left(&rust, tally));
+            out.push_str(&left(&rust, tally)?);
         }
     }
     Ok(out)
@@ -118,14 +118,15 @@ fn line(call: &Call, answer: &Answer) -> Result<String, String> {
 }
 
 /// State and work area after an opening, an edit or a commit.
-fn left(rust: &Rust, tally: u32) -> String {
-    let state = rust.state(tally);
+fn left(rust: &Rust, tally: u32) -> Result<String, String> {
+    let book = rust.book(tally)?;
+    let state = book.state();
     let mut out = format!("S {} {} {}", state.n, state.active, state.tally);
     for entry in &state.entries[..state.n as usize] {
         let _ = write!(out, " {} {} {}", entry.kind, entry.total, entry.usable);
     }
-    let _ = write!(out, "\nW {:08X}\n", crc32fast::hash(&rust.work()));
-    out
+    let _ = write!(out, "\nW {:08X}\n", crc32fast::hash(&book.work()));
+    Ok(out)
 }
 
 fn bytes(bytes: &[u8]) -> String {
@@ -161,10 +162,7 @@ mod tests {
 
     #[test]
     fn bytes_are_written_short() {
-        assert_eq!(
-            (repeated(b""), repeated(b"abc")),
-            ("1 -".into(), "1 616263".into())
-        );
+        assert_eq!((repeated(b""), repeated(b"abc")), ("1 -".into(), "1 616263".into()));
         assert_eq!(repeated(&[65; 70_000]), "70000 41");
         let mut image = vec![0xFF; BANK + 3];
         image[..2].copy_from_slice(&[1, 0xAB]);

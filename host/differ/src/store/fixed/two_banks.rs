@@ -49,56 +49,30 @@ pub fn measured(pair: Option<Pair>) -> Result<Pair, String> {
     if case && pair.inserted >= LEAST {
         return Ok(pair);
     }
-    Err(format!(
-        "two banks: not the case of {LEAST} bytes\n  {pair}"
-    ))
+    Err(format!("two banks: not the case of {LEAST} bytes\n  {pair}"))
 }
 
 #[cfg(test)]
 mod tests {
     use super::*;
-    use crate::store::faulty::{Committed, Faulty};
-    use crate::store::lent::state::usable_at;
     use crate::store::lent::Port;
     use crate::store::run::compare;
-    use image::put_number;
+    use crate::store::run::counts::{ERASES, MOVES, PAIRS, RUST_CALLED};
 
     #[test]
     fn the_run_meets_the_bound_exactly() {
         let run = run();
-        let counts = compare(&run, &Port).unwrap();
-        assert_eq!((counts.moves, counts.erases, counts.bounded), (3, 3, 1));
-        assert_eq!(counts.rust_calls, run.calls.len() as u64);
+        let counts = compare(&run, Port::default()).unwrap();
+        let of = |name| counts.others.of(name);
+        assert_eq!((of(MOVES), of(ERASES), of(PAIRS)), (3, 3, 1));
+        assert_eq!(of(RUST_CALLED), run.calls.len() as u64);
         let pair = measured(counts.fewest).unwrap();
         assert_eq!(pair.inserted, LEAST);
     }
 
     #[test]
-    fn an_erase_one_insert_early_is_found() {
-        let early = Faulty(|done: &mut Committed| {
-            let active = done.told().active as usize;
-            let entry = done.told().entries[active];
-            // The usable bytes of the entry, below its total: a second commit moves.
-            if !done.moved() && entry.total as usize + STRIKES.1 > BANK {
-                put_number(done.state, usable_at(active), HEADER as u32);
-                let (state, work) = (&mut *done.state, &mut *done.work);
-                done.number = feqyondil::lent::commit(state, work, done.out, done.requests);
-            }
-        });
-        let message = compare(&run(), &early).unwrap_err();
-        assert!(message.starts_with("at call 28 (commit"), "{message}");
-        assert!(message.contains("01:   0, erase 0 at 0"), "{message}");
-        assert!(message.contains("port: 0, erase 1 at 65536"), "{message}");
-    }
-
-    #[test]
     fn another_case_or_fewer_bytes_are_a_fault() {
-        let case = Pair {
-            inserted: LEAST,
-            banks: 2,
-            size: 65_536,
-            most: 8_192,
-        };
+        let case = Pair { inserted: LEAST, banks: 2, size: 65_536, most: 8_192 };
         assert_eq!(measured(Some(case)), Ok(case));
         assert!(measured(None).is_err());
         let inserted = LEAST - 1;

@@ -2,8 +2,8 @@
 
 use std::fmt::{self, Display, Formatter};
 
-/// More bytes than these are counted, not printed.
-const PRINTED: usize = 32;
+pub use image::hex;
+
 /// What the room for a value, or an output, holds before a call.
 pub const ROOM: u8 = 0xA5;
 /// What a commit asks: whether to erase and where, where to write and how many bytes.
@@ -32,6 +32,20 @@ pub enum What {
     Commit(usize),
     /// The same.
     Whole(usize),
+}
+
+impl What {
+    /// What its calls are called.
+    pub fn name(&self) -> &'static str {
+        match self {
+            What::Insert(_) => "inserts",
+            What::Remove => "removes",
+            What::Lookup => "lookups",
+            What::Value(_) => "values",
+            What::Commit(_) => "commits",
+            What::Whole(_) => "whole images",
+        }
+    }
 }
 
 /// What a call answers.
@@ -113,6 +127,15 @@ impl Answer {
             _ => &[],
         }
     }
+
+    pub fn room_mut(&mut self) -> Option<&mut Vec<u8>> {
+        match self {
+            Answer::Value(_, out) | Answer::Commit(_, _, out) | Answer::Whole(_, _, out) => {
+                Some(out)
+            }
+            _ => None,
+        }
+    }
 }
 
 /// A room with these bytes at its front, as far as it reaches.
@@ -129,8 +152,7 @@ pub fn parting(said: &Answer, has: &Answer) -> String {
     let Some(at) = said.iter().zip(has).position(|(a, b)| a != b) else {
         return String::new();
     };
-    let shown = |bytes: &[u8]| hex(&bytes[at..bytes.len().min(at + PRINTED)]);
-    let (said, has) = (shown(said), shown(has));
+    let (said, has) = (hex(&said[at..]), hex(&has[at..]));
     format!("\n  from {at} on, 01: {said}, port: {has}")
 }
 
@@ -164,20 +186,6 @@ impl Display for Answer {
                 write!(f, "{number}, length {length}, output {}", hex(out))
             }
         }
-    }
-}
-
-/// Bytes in hex, `-` for none; the front of many.
-pub fn hex(bytes: &[u8]) -> String {
-    let digits: String = bytes
-        .iter()
-        .take(PRINTED)
-        .map(|b| format!("{b:02x}"))
-        .collect();
-    match bytes.len() {
-        0 => "-".to_string(),
-        len if len > PRINTED => format!("{digits}.. of {len} bytes"),
-        _ => digits,
     }
 }
 

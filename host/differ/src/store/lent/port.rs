@@ -1,47 +1,29 @@
 //! The port's calls on lent buffers, and what they are to leave alone.
 
-use super::call::{Answer, Asked, Call, What, ROOM};
+use super::call::{Answer, Call, What, ROOM};
 
 /// Bytes before and after a buffer that nobody lent.
 const GUARD: usize = 64;
 /// What guards hold.
 const BEFORE: u8 = 0xA5;
 
-/// The seven calls; the tests plant faults here.
-pub trait Calls {
-    fn open(&self, image: &[u8], state: &mut [u8], work: &mut [u8]) -> u32 {
-        feqyondil::lent::open(image, state, work)
-    }
-
-    fn insert(&self, state: &mut [u8], work: &mut [u8], key: &[u8], value: &[u8], typ: u32) -> u32 {
-        feqyondil::lent::insert(state, work, key, value, typ)
-    }
-
-    fn remove(&self, state: &[u8], work: &mut [u8], key: &[u8], typ: u32) -> u32 {
-        feqyondil::lent::remove(state, work, key, typ)
-    }
-
-    fn lookup(&self, state: &[u8], work: &[u8], key: &[u8], typ: u32, out: &mut [u64; 3]) -> u32 {
-        feqyondil::lent::lookup(state, work, key, typ, out)
-    }
-
-    fn value(&self, state: &[u8], work: &[u8], key: &[u8], typ: u32, out: &mut [u8]) -> usize {
-        feqyondil::lent::value(state, work, key, typ, out)
-    }
-
-    fn commit(&self, state: &mut [u8], work: &mut [u8], out: &mut [u8], asked: &mut Asked) -> u32 {
-        feqyondil::lent::commit(state, work, out, asked)
-    }
-
-    fn whole(&self, state: &[u8], work: &[u8], out: &mut [u8], length: &mut [u64; 1]) -> u32 {
-        feqyondil::lent::whole_image(state, work, out, length)
-    }
+/// The port, with a fault behind each of its calls where a test plants one.
+#[derive(Clone, Copy, Default)]
+pub struct Port {
+    pub fault: Option<fn(&mut Done)>,
 }
 
-/// The port as it is.
-pub struct Port;
-
-impl Calls for Port {}
+/// A call of the port that is done, for a planted fault to change.
+#[cfg_attr(not(test), allow(dead_code))]
+pub struct Done<'a> {
+    /// None is the opening, which answers its number.
+    pub call: Option<&'a Call>,
+    /// State and work area before it, and after it.
+    pub before: (Vec<u8>, Vec<u8>),
+    pub state: &'a mut [u8],
+    pub work: &'a mut [u8],
+    pub answer: Answer,
+}
 
 /// How buffers stand in memory; it must not matter.
 #[derive(Clone, Copy, Debug, PartialEq)]
@@ -69,11 +51,7 @@ impl Buffer {
         whole.resize(before, BEFORE);
         whole.extend_from_slice(bytes);
         whole.resize(before + bytes.len() + after, BEFORE);
-        Buffer {
-            whole: whole.into_boxed_slice(),
-            from: before,
-            to: before + bytes.len(),
-        }
+        Buffer { whole: whole.into_boxed_slice(), from: before, to: before + bytes.len() }
     }
 
     pub fn bytes(&self) -> &[u8] {
@@ -92,17 +70,17 @@ impl Buffer {
 }
 
 /// State and work area, lent call after call.
-pub struct Lent<'a> {
-    pub calls: &'a dyn Calls,
+pub struct Lent {
+    pub port: Port,
     pub standing: Standing,
     pub state: Buffer,
     pub work: Buffer,
 }
 
-impl<'a> Lent<'a> {
-    pub fn new(calls: &'a dyn Calls, standing: Standing, state: &[u8], work: &[u8]) -> Self {
+impl Lent {
+    pub fn new(port: Port, standing: Standing, state: &[u8], work: &[u8]) -> Self {
         Lent {
-            calls,
+            port,
             standing,
             state: Buffer::new(state, standing),
             work: Buffer::new(work, standing),
@@ -110,79 +88,90 @@ impl<'a> Lent<'a> {
     }
 
     pub fn open(&mut self, image: &[u8]) -> Result<u32, String> {
-        let lent = Buffer::new(image, self.standing);
+        let (lent, before) = (Buffer::new(image, self.standing), self.before());
         let (state, work) = (self.state.bytes_mut(), self.work.bytes_mut());
-        let number = self.calls.open(lent.bytes(), state, work);
+        let number = feqyondil::lent::open(lent.bytes(), state, work);
         self.untouched(&[(&lent, image)])?;
-        Ok(number)
+        match self.done(None, before, Answer::Number(number)) {
+            Answer::Number(number) => Ok(number),
+            other => Err(format!("it opens with {other}")),
+        }
     }
 
     pub fn ask(&mut self, call: &Call) -> Result<Answer, String> {
-        let key = Buffer::new(&call.key, self.standing);
+        let (key, before) = (Buffer::new(&call.key, self.standing), self.before());
+        let (state, work) = (self.state.bytes_mut(), self.work.bytes_mut());
+        let (lent_key, typ) = (key.bytes(), call.typ);
         let answer = match &call.what {
-            What::Insert(value) => self.insert(call, &key, value)?,
-            What::Remove => {
-                let (state, work) = (self.state.bytes(), self.work.bytes_mut());
-                Answer::Number(self.calls.remove(state, work, key.bytes(), call.typ))
+            What::Insert(value) => {
+                let lent = Buffer::new(value, self.standing);
+                let number = feqyondil::lent::insert(state, work, lent_key, lent.bytes(), typ);
+                self.untouched(&[(&lent, value)])?;
+                Answer::Number(number)
             }
-            What::Lookup => self.lookup(call, &key)?,
-            What::Value(room) => self.value(call, &key, *room)?,
-            What::Commit(room) => self.commit(*room)?,
-            What::Whole(room) => self.whole(*room)?,
+            What::Remove => Answer::Number(feqyondil::lent::remove(state, work, lent_key, typ)),
+            What::Lookup => {
+                let lookup = |out: &mut _| feqyondil::lent::lookup(state, work, lent_key, typ, out);
+                let (number, found) = with_numbers(lookup)?;
+                Answer::Lookup(number, found)
+            }
+            What::Value(room) | What::Commit(room) | What::Whole(room) => {
+                self.with_room(call, &key, *room)?
+            }
         };
         self.untouched(&[(&key, &call.key)])?;
+        Ok(self.done(Some(call), before, answer))
+    }
+
+    fn with_room(&mut self, call: &Call, key: &Buffer, room: usize) -> Result<Answer, String> {
+        let mut lent = Buffer::new(&vec![ROOM; room], self.standing);
+        let (state, work) = (self.state.bytes_mut(), self.work.bytes_mut());
+        let out = lent.bytes_mut();
+        let mut answer = match call.what {
+            What::Commit(_) => {
+                let commit = |asked: &mut _| feqyondil::lent::commit(state, work, out, asked);
+                let (number, asked) = with_numbers(commit)?;
+                Answer::Commit(number, asked, Vec::new())
+            }
+            What::Whole(_) => {
+                let whole = |length: &mut _| feqyondil::lent::whole_image(state, work, out, length);
+                let (number, [length]) = with_numbers(whole)?;
+                Answer::Whole(number, length, Vec::new())
+            }
+            _ => {
+                let length = feqyondil::lent::value(state, work, key.bytes(), call.typ, out);
+                Answer::Value(length, Vec::new())
+            }
+        };
+        self.untouched(&[(&lent, lent.bytes())])?;
+        *answer.room_mut().expect("a room") = lent.bytes().to_vec();
         Ok(answer)
     }
 
-    fn insert(&mut self, call: &Call, key: &Buffer, value: &[u8]) -> Result<Answer, String> {
-        let lent = Buffer::new(value, self.standing);
+    /// State and work area, where a fault may ask for them.
+    fn before(&self) -> Option<(Vec<u8>, Vec<u8>)> {
+        let both = || (self.state.bytes().to_vec(), self.work.bytes().to_vec());
+        self.port.fault.map(|_| both())
+    }
+
+    fn done(
+        &mut self,
+        call: Option<&Call>,
+        before: Option<(Vec<u8>, Vec<u8>)>,
+        answer: Answer,
+    ) -> Answer {
+        let (Some(fault), Some(before)) = (self.port.fault, before) else {
+            return answer;
+        };
         let (state, work) = (self.state.bytes_mut(), self.work.bytes_mut());
-        let (key, typ) = (key.bytes(), call.typ);
-        let number = self.calls.insert(state, work, key, lent.bytes(), typ);
-        self.untouched(&[(&lent, value)])?;
-        Ok(Answer::Number(number))
-    }
-
-    fn lookup(&mut self, call: &Call, key: &Buffer) -> Result<Answer, String> {
-        let (state, work) = (self.state.bytes(), self.work.bytes());
-        let (key, typ) = (key.bytes(), call.typ);
-        let lookup = |out: &mut _| self.calls.lookup(state, work, key, typ, out);
-        let (number, found) = with_numbers(lookup)?;
-        Ok(Answer::Lookup(number, found))
-    }
-
-    fn value(&mut self, call: &Call, key: &Buffer, room: usize) -> Result<Answer, String> {
-        let mut out = Buffer::new(&vec![ROOM; room], self.standing);
-        let (state, work) = (self.state.bytes(), self.work.bytes());
-        let (key, typ) = (key.bytes(), call.typ);
-        let length = self.calls.value(state, work, key, typ, out.bytes_mut());
-        self.untouched(&[(&out, out.bytes())])?;
-        Ok(Answer::Value(length, out.bytes().to_vec()))
-    }
-
-    fn commit(&mut self, room: usize) -> Result<Answer, String> {
-        let mut out = Buffer::new(&vec![ROOM; room], self.standing);
-        let (state, work) = (self.state.bytes_mut(), self.work.bytes_mut());
-        let commit = |requests: &mut _| self.calls.commit(state, work, out.bytes_mut(), requests);
-        let (number, requests) = with_numbers(commit)?;
-        self.untouched(&[(&out, out.bytes())])?;
-        Ok(Answer::Commit(number, requests, out.bytes().to_vec()))
-    }
-
-    fn whole(&mut self, room: usize) -> Result<Answer, String> {
-        let mut out = Buffer::new(&vec![ROOM; room], self.standing);
-        let (state, work) = (self.state.bytes(), self.work.bytes());
-        let whole = |length: &mut _| self.calls.whole(state, work, out.bytes_mut(), length);
-        let (number, [length]) = with_numbers(whole)?;
-        self.untouched(&[(&out, out.bytes())])?;
-        Ok(Answer::Whole(number, length, out.bytes().to_vec()))
+        let mut done = Done { call, before, state, work, answer };
+        fault(&mut done);
+        done.answer
     }
 
     /// These buffers are as they were, and no guard was written over.
     fn untouched(&self, lent: &[(&Buffer, &[u8])]) -> Result<(), String> {
-        let same = lent
-            .iter()
-            .all(|(b, bytes)| b.intact() && b.bytes() == *bytes);
+        let same = lent.iter().all(|(b, bytes)| b.intact() && b.bytes() == *bytes);
         if same && self.state.intact() && self.work.intact() {
             return Ok(());
         }

@@ -25,9 +25,7 @@ pub fn same_work(said: &[u8], has: &[u8], side: &str) -> Result<(), String> {
     };
     let end = (at + 16).min(said.len()).min(has.len());
     let (said, has) = (&said[at..end], &has[at..end]);
-    Err(format!(
-        "\n  the work area from {at} on, 01: {said:02x?}, {side}: {has:02x?}"
-    ))
+    Err(format!("\n  the work area from {at} on, 01: {said:02x?}, {side}: {has:02x?}"))
 }
 
 #[cfg(test)]
@@ -38,15 +36,9 @@ mod tests {
     fn a_difference_is_told_with_its_place() {
         assert_eq!(same_work(&[1, 2, 3], &[1, 2, 3], "port"), Ok(()));
         let fault = same_work(&[1, 2, 3], &[1, 9, 3], "port").unwrap_err();
-        assert!(
-            fault.contains("from 1 on, 01: [02, 03], port: [09, 03]"),
-            "{fault}"
-        );
+        assert!(fault.contains("from 1 on, 01: [02, 03], port: [09, 03]"), "{fault}");
         let fault = same_work(&[1, 2, 3], &[1, 2], "port").unwrap_err();
-        assert!(
-            fault.contains("01: a work area of 3, port: of 2"),
-            "{fault}"
-        );
+        assert!(fault.contains("01: a work area of 3, port: of 2"), "{fault}");
         let mut state = [0; 204];
         assert_eq!(same_state(&state, &[0; 204], "port"), Ok(()));
         state[0] = 5;

@@ -56,10 +56,7 @@ impl State {
             usable: number(bytes, usable_at(i)),
         };
         let mut entries = [Entry::default(); ENTRIES];
-        entries
-            .iter_mut()
-            .enumerate()
-            .for_each(|(i, e)| *e = entry(i));
+        entries.iter_mut().enumerate().for_each(|(i, e)| *e = entry(i));
         Some(State {
             n: number(bytes, 0),
             active: number(bytes, 4),
@@ -70,10 +67,7 @@ impl State {
 
     pub fn bytes(&self) -> [u8; STATE] {
         let mut out = [0; STATE];
-        let entries = self
-            .entries
-            .iter()
-            .flat_map(|e| [e.kind, e.total, e.usable]);
+        let entries = self.entries.iter().flat_map(|e| [e.kind, e.total, e.usable]);
         let numbers = [self.n, self.active, self.tally].into_iter().chain(entries);
         for (i, number) in numbers.enumerate() {
             put_number(&mut out, 4 * i, number);

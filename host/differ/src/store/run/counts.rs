@@ -1,149 +1,126 @@
 //! How many runs and calls there were, and what became of them.
 
+use std::collections::BTreeMap;
 use std::fmt::{self, Display, Formatter};
 use std::ops::AddAssign;
 
 use super::wear::Pair;
 use crate::store::book::Book;
-use crate::store::lent::call::{Answer, Call, What};
+use crate::store::lent::call::{Answer, Call};
 
-/// Refusals go up to 13.
-const NUMBERS: usize = 14;
+pub const BANKS: &str = "banks";
+/// Lookups and values that found something.
+pub const FOUND: &str = "found";
+/// Commits that moved the bank, those refused with 12 too.
+pub const MOVES: &str = "moves";
+pub const ERASES: &str = "erase requests";
+/// Of erase requests for one bank, that the bound asks something of.
+pub const PAIRS: &str = "pairs of requests";
+/// Of the flash by the port.
+pub const REOPENED: &str = "reopenings";
+/// What the Rust answered too.
+pub const RUST_OPENED: &str = "openings as in the Rust";
+pub const RUST_CALLED: &str = "calls as in the Rust";
+pub const RUST_REOPENED: &str = "reopenings as in the Rust";
 
-#[derive(Clone, Copy, Debug, Default, PartialEq)]
+#[derive(Clone, Debug, Default, PartialEq)]
 pub struct Counts {
-    /// By the opening's number.
-    pub runs: [u64; NUMBERS],
-    pub banks: u64,
-    /// By insert, remove, lookup, value, commit, whole image.
-    pub calls: [u64; 6],
-    /// Lookups and values that found something.
-    pub found: u64,
-    /// By the call's number; a value tells none, and is not counted here.
-    pub numbers: [u64; NUMBERS],
-    /// Commits that moved the bank, those refused with 12 too; erase requests; and pairs of them
-    /// that the bound asks something of.
-    pub moves: u64,
-    pub erases: u64,
-    pub bounded: u64,
+    /// By their number; a value tells none, and is not among the calls here.
+    pub openings: By<u32>,
+    pub numbers: By<u32>,
+    /// Calls by their kind, and what is named above.
+    pub others: By<&'static str>,
     /// The pair with the fewest bytes inserted between.
     pub fewest: Option<Pair>,
-    /// Reopenings of the flash by the port, and by the Rust too.
-    pub reopened: u64,
-    pub rust_reopened: u64,
-    /// Openings and calls that the Rust answered too.
-    pub rust_runs: u64,
-    pub rust_calls: u64,
+}
+
+/// So many of each.
+#[derive(Clone, Debug, Default, PartialEq)]
+pub struct By<K: Ord>(BTreeMap<K, u64>);
+
+impl<K: Ord> By<K> {
+    #[cfg(test)]
+    pub fn of(&self, key: K) -> u64 {
+        self.0.get(&key).copied().unwrap_or(0)
+    }
+
+    fn add(&mut self, key: K, more: u64) {
+        *self.0.entry(key).or_default() += more;
+    }
+
+    fn add_all(&mut self, more: By<K>) {
+        more.0.into_iter().for_each(|(key, more)| self.add(key, more));
+    }
+
+    fn all(&self) -> u64 {
+        self.0.values().sum()
+    }
 }
 
 impl Counts {
     pub fn opened(book: &Result<Book, u32>) -> Self {
         let mut counts = Counts::default();
-        counts.runs[book.as_ref().err().map_or(0, |&n| n as usize)] = 1;
-        counts.banks = book.as_ref().map_or(0, |b| b.slots.len() as u64);
+        counts.openings.add(book.as_ref().err().copied().unwrap_or(0), 1);
+        counts.add(BANKS, book.as_ref().map_or(0, |b| b.slots.len() as u64));
         counts
     }
 
-    /// Of a pair that the bound asks something of.
-    pub fn paired(pair: Pair) -> Self {
-        Counts {
-            bounded: 1,
-            fewest: Some(pair),
-            ..Counts::default()
-        }
+    pub fn add(&mut self, name: &'static str, more: u64) {
+        self.others.add(name, more);
     }
 
     /// Counts a call; `asked` where the active bank is Valid.
     pub fn called(&mut self, call: &Call, answer: &Answer, asked: bool) {
-        let what = match call.what {
-            What::Insert(_) => 0,
-            What::Remove => 1,
-            What::Lookup => 2,
-            What::Value(_) => 3,
-            What::Commit(_) => 4,
-            What::Whole(_) => 5,
-        };
-        self.calls[what] += 1;
-        match *answer {
-            Answer::Number(number) => self.numbers[number as usize] += 1,
+        self.add(call.what.name(), 1);
+        let number = match *answer {
+            Answer::Value(length, _) => {
+                self.add(FOUND, u64::from(asked && length > 0));
+                return;
+            }
             Answer::Lookup(number, [found, ..]) => {
-                self.numbers[number as usize] += 1;
-                self.found += found;
+                self.add(FOUND, found);
+                number
             }
-            Answer::Value(length, _) => self.found += u64::from(asked && length > 0),
             Answer::Commit(number, [erases, ..], _) => {
-                self.numbers[number as usize] += 1;
-                self.erases += erases;
+                self.add(ERASES, erases);
+                number
             }
-            Answer::Whole(number, ..) => self.numbers[number as usize] += 1,
-        }
+            Answer::Number(number) | Answer::Whole(number, ..) => number,
+        };
+        self.numbers.add(number, 1);
     }
 
-    pub fn all_runs(&self) -> u64 {
-        self.runs.iter().sum()
-    }
-
-    pub fn all_calls(&self) -> u64 {
-        self.calls.iter().sum()
+    pub fn runs(&self) -> u64 {
+        self.openings.all()
     }
 }
 
 impl AddAssign for Counts {
     fn add_assign(&mut self, more: Counts) {
-        let add = |to: &mut [u64], more: &[u64]| {
-            to.iter_mut().zip(more).for_each(|(a, b)| *a += b);
-        };
-        add(&mut self.runs, &more.runs);
-        add(&mut self.calls, &more.calls);
-        add(&mut self.numbers, &more.numbers);
-        self.banks += more.banks;
-        self.found += more.found;
-        self.moves += more.moves;
-        self.erases += more.erases;
-        self.bounded += more.bounded;
+        self.openings.add_all(more.openings);
+        self.numbers.add_all(more.numbers);
+        self.others.add_all(more.others);
         self.fewest = self.fewest.into_iter().chain(more.fewest).min();
-        self.reopened += more.reopened;
-        self.rust_reopened += more.rust_reopened;
-        self.rust_runs += more.rust_runs;
-        self.rust_calls += more.rust_calls;
     }
 }
 
 impl Display for Counts {
     fn fmt(&self, f: &mut Formatter) -> fmt::Result {
-        let [insert, remove, lookup, value, commit, whole] = self.calls;
-        write!(f, "{} openings", self.all_runs())?;
-        numbers(f, &self.runs)?;
-        write!(f, " of {} banks, {} calls", self.banks, self.all_calls())?;
-        numbers(f, &self.numbers)?;
-        write!(
-            f,
-            ": {insert} inserts, {remove} removes, {lookup} lookups, "
-        )?;
-        write!(f, "{value} values, {} found, ", self.found)?;
-        write!(f, "{commit} commits, {whole} whole images; ")?;
-        write!(f, "{} moves, {} erase requests, ", self.moves, self.erases)?;
-        write!(f, "{} pairs for one bank; ", self.bounded)?;
-        write!(f, "{} reopenings; ", self.reopened)?;
-        let (runs, calls) = (self.rust_runs, self.rust_calls);
-        write!(f, "equal to the Rust: {runs} openings, {calls} calls, ")?;
-        write!(f, "{} reopenings", self.rust_reopened)
-    }
-}
-
-/// How many were refused, by number.
-fn numbers(f: &mut Formatter, counts: &[u64; NUMBERS]) -> fmt::Result {
-    let refused = counts.iter().enumerate().skip(1).filter(|(_, &c)| c > 0);
-    let words: Vec<String> = refused.map(|(n, c)| format!("{c} with {n}")).collect();
-    match words.is_empty() {
-        true => Ok(()),
-        false => write!(f, " (refused: {})", words.join(", ")),
+        let refused = |numbers: &By<u32>| -> String {
+            let refused = numbers.0.iter().filter(|(number, _)| **number > 0);
+            refused.map(|(number, count)| format!(", {count} refused with {number}")).collect()
+        };
+        write!(f, "{} openings{}; ", self.runs(), refused(&self.openings))?;
+        write!(f, "{} calls with a number{}", self.numbers.all(), refused(&self.numbers))?;
+        let mut others = self.others.0.iter().filter(|(_, count)| **count > 0);
+        others.try_for_each(|(name, count)| write!(f, "; {count} {name}"))
     }
 }
 
 #[cfg(test)]
 mod tests {
     use super::*;
+    use crate::store::lent::call::What;
 
     #[test]
     fn calls_are_counted_by_what_became_of_them() {
@@ -151,11 +128,11 @@ mod tests {
         let lookup = Call::new(What::Lookup, b"", 0);
         counts.called(&lookup, &lookup.refused(6), false);
         counts.called(&lookup, &lookup.found(1, b"a"), true);
-        let mut both = counts;
+        let mut both = counts.clone();
         both += counts;
-        let text = both.to_string();
-        assert!(text.starts_with("2 openings (refused: 2 with 4)"), "{text}");
-        assert!(text.contains("4 calls (refused: 2 with 6): "), "{text}");
-        assert!(text.contains("4 lookups, 0 values, 2 found"), "{text}");
+        let told =
+            "2 openings, 2 refused with 4; 4 calls with a number, 2 refused with 6; 2 found; \
+                    4 lookups";
+        assert_eq!(both.to_string(), told);
     }
 }

@@ -2,7 +2,7 @@
 
 use image::RECORD;
 
-use super::counts::Counts;
+use super::counts::{Counts, PAIRS, REOPENED, RUST_REOPENED};
 use super::flash::{erase, reopen, reopen_rust, Flash};
 use super::wear::Wear;
 use crate::store::book::Book;
@@ -65,7 +65,8 @@ impl Watch {
         };
         let (live, size) = (bank.live(), bank.header.size as usize);
         if let Some(pair) = self.wear.committed(live, size, erase(port))? {
-            *counts += Counts::paired(pair);
+            counts.add(PAIRS, 1);
+            *counts += Counts { fewest: Some(pair), ..Counts::default() };
         }
         self.port.carry_out(port)?;
         if let Some(rust) = rust {
@@ -74,11 +75,11 @@ impl Watch {
         if self.requests == 0 || port.written().is_none() {
             return Ok(());
         }
-        counts.reopened += 1;
+        counts.add(REOPENED, 1);
         let again = reopen(&self.port, book, lent)?;
         if rust.is_some() {
             let asked = reopen_rust(&self.rust, book, &again)?;
-            counts.rust_reopened += u64::from(asked);
+            counts.add(RUST_REOPENED, asked.into());
         }
         Ok(())
     }

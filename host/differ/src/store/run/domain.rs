@@ -23,7 +23,7 @@ pub fn inside(image: &[u8]) -> bool {
 
 /// The Rust may be asked for what 01 answers this to. What it does instead, where it may not, is
 /// in docs/DIFFERENCES.md.
-pub fn within(book: &mut Book, said: &Answer) -> bool {
+pub fn within(book: &Book, said: &Answer) -> bool {
     let bank = book.active_bank();
     match said {
         Answer::Number(number) | Answer::Lookup(number, _) | Answer::Whole(number, ..) => {

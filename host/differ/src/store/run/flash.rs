@@ -57,10 +57,10 @@ pub fn erase(answer: &Answer) -> Option<usize> {
 
 /// Opens the flash by the port: the active bank is the book's, and each key and type is looked up
 /// with the answers that the store gives as the commit left it. Answers how 01 opens it.
-pub fn reopen(flash: &Flash, book: &mut Book, left: &mut Lent) -> Result<Book, String> {
+pub fn reopen(flash: &Flash, book: &Book, left: &mut Lent) -> Result<Book, String> {
     let again = opened(flash, book)?;
     let work = vec![0; again.slots.len() * PART];
-    let mut lent = Lent::new(left.calls, left.standing, &[0; STATE], &work);
+    let mut lent = Lent::new(left.port, left.standing, &[0; STATE], &work);
     let number = lent.open(&flash.bytes)?;
     if number != 0 {
         return Err(format!("\n  the flash reopens with {number}"));
@@ -68,7 +68,7 @@ pub fn reopen(flash: &Flash, book: &mut Book, left: &mut Lent) -> Result<Book, S
     same_state(&again.state().bytes(), lent.state.bytes(), "port")?;
     same_work(&again.work(), lent.work.bytes(), "port")?;
     for call in lookups(book) {
-        let said = book.answer(&call);
+        let said = book.lookup(&call);
         let (now, then) = (left.ask(&call)?, lent.ask(&call)?);
         if (&now, &then) != (&said, &said) {
             return Err(format!(
@@ -80,18 +80,17 @@ pub fn reopen(flash: &Flash, book: &mut Book, left: &mut Lent) -> Result<Book, S
 }
 
 /// The same by the Rust, where it may be asked; whether it was. `again` is how 01 opens the flash.
-pub fn reopen_rust(flash: &Flash, book: &mut Book, again: &Book) -> Result<bool, String> {
+pub fn reopen_rust(flash: &Flash, book: &Book, again: &Book) -> Result<bool, String> {
     if !inside(&flash.bytes) {
         return Ok(false);
     }
     let mut rust = Rust::reopen(&flash.bytes, again)?;
-    same_work(&book.slots[book.active].part(), &rust.active_part(), "Rust")?;
+    let has = rust.book(0)?;
+    same_work(&book.slots[book.active].part(), &has.slots[has.active].part(), "Rust")?;
     for call in lookups(book) {
-        let (said, then) = (book.answer(&call), rust.answer(&call)?);
+        let (said, then) = (book.lookup(&call), rust.answer(&call)?);
         if then != said {
-            return Err(format!(
-                "\n  {call}\n  01:            {said}\n  Rust reopened: {then}"
-            ));
+            return Err(format!("\n  {call}\n  01:            {said}\n  Rust reopened: {then}"));
         }
     }
     Ok(true)
@@ -117,7 +116,7 @@ fn opened(flash: &Flash, book: &Book) -> Result<Book, String> {
 }
 
 /// Both lookups of keys of the active bank and of one that is not there, of either type.
-fn lookups(book: &mut Book) -> Vec<Call> {
+fn lookups(book: &Book) -> Vec<Call> {
     let records = book.active_bank().map_or(&[][..], |bank| &bank.records);
     let room = records.iter().map(|r| r.value.len()).max().unwrap_or(0) + 1;
     let mut seen = HashSet::new();
@@ -128,10 +127,7 @@ fn lookups(book: &mut Book) -> Vec<Call> {
     }
     keys.push(b"not there");
     let what = [What::Lookup, What::Value(room)];
-    let both = |key| {
-        what.clone()
-            .map(|what| [0, 1].map(|typ| Call::new(what.clone(), key, typ)))
-    };
+    let both = |key| what.clone().map(|what| [0, 1].map(|typ| Call::new(what.clone(), key, typ)));
     keys.into_iter().flat_map(both).flatten().collect()
 }
 
@@ -142,17 +138,12 @@ mod tests {
     use image::{Header, Record};
 
     /// A store of two banks of size 100 with one record, its book, and its flash.
-    fn opened_store() -> (Lent<'static>, Book, Flash) {
-        let bank = |generation| {
-            let header = Header {
-                size: 100,
-                generation,
-                ..Header::default()
-            };
-            image::bank(&header, &[Record::live(b"k", b"v")])
-        };
+    fn opened_store() -> (Lent, Book, Flash) {
+        let records = [Record::live(b"k", b"v")];
+        let bank = |generation| image::bank(&Header::new(100, generation), &records);
         let image = [bank(5), bank(4)].concat();
-        let mut lent = Lent::new(&Port, Standing::Guarded(0), &[0; STATE], &vec![0; 2 * PART]);
+        let mut lent =
+            Lent::new(Port::default(), Standing::Guarded(0), &[0; STATE], &vec![0; 2 * PART]);
         assert_eq!(lent.open(&image), Ok(0));
         let book = Book::open(&image, 2 * PART).unwrap();
         (lent, book, Flash::new(&image))
@@ -180,18 +171,18 @@ mod tests {
         };
         let only = Answer::Commit(0, [0, 0, offset, length], out);
         not_erased.carry_out(&only).unwrap();
-        assert!(reopen(&not_erased, &mut book, &mut lent).is_err());
+        assert!(reopen(&not_erased, &book, &mut lent).is_err());
         flash.carry_out(&first).unwrap();
-        let again = reopen(&flash, &mut book, &mut lent).unwrap();
-        assert_eq!(reopen_rust(&flash, &mut book, &again), Ok(true));
+        let again = reopen(&flash, &book, &mut lent).unwrap();
+        assert_eq!(reopen_rust(&flash, &book, &again), Ok(true));
         let mut repeated = flash.clone();
         let second = moved(&mut lent, &mut book, 0xF0);
         flash.carry_out(&second).unwrap();
-        let again = reopen(&flash, &mut book, &mut lent).unwrap();
-        assert_eq!(reopen_rust(&flash, &mut book, &again), Ok(true));
+        let again = reopen(&flash, &book, &mut lent).unwrap();
+        assert_eq!(reopen_rust(&flash, &book, &again), Ok(true));
         repeated.carry_out(&first).unwrap();
-        assert!(reopen(&repeated, &mut book, &mut lent).is_err());
-        assert!(reopen_rust(&repeated, &mut book, &again).is_err());
+        assert!(reopen(&repeated, &book, &mut lent).is_err());
+        assert!(reopen_rust(&repeated, &book, &again).is_err());
     }
 
     #[test]

@@ -20,13 +20,7 @@ pub struct Run {
 
 impl Run {
     pub fn new(image: Vec<u8>, calls: Vec<Call>) -> Self {
-        Run {
-            image,
-            calls,
-            standing: Standing::Guarded(0),
-            state: STATE,
-            spare: 0,
-        }
+        Run { image, calls, standing: Standing::Guarded(0), state: STATE, spare: 0 }
     }
 
     pub fn work(&self) -> usize {

@@ -77,10 +77,7 @@ impl Wear {
             since.most = since.most.max(live);
         }
         if let Some(i) = bank {
-            self.banks[i] = Some(Since {
-                inserted: 0,
-                most: live,
-            });
+            self.banks[i] = Some(Since { inserted: 0, most: live });
         }
         Ok(pair)
     }
@@ -90,12 +87,7 @@ impl Wear {
         if most > size {
             return Ok(None);
         }
-        let pair = Pair {
-            inserted,
-            banks: self.banks.len() as u64,
-            size,
-            most,
-        };
+        let pair = Pair { inserted, banks: self.banks.len() as u64, size, most };
         if inserted >= pair.least() {
             return Ok(Some(pair));
         }

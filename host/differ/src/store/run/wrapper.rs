@@ -63,11 +63,7 @@ fn entry(bank: feqyondil::Entry) -> Entry {
         Kind::Invalid => INVALID,
         Kind::Valid => VALID,
     };
-    Entry {
-        kind,
-        total: bank.total as u32,
-        usable: bank.usable as u32,
-    }
+    Entry { kind, total: bank.total as u32, usable: bank.usable as u32 }
 }
 
 fn ask(store: &mut Store, call: &Call) -> Answer {

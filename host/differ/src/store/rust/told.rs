@@ -1,5 +1,6 @@
 //! What the Rust's store keeps private, as its Debug tells it.
 
+use crate::partition::rust::leading;
 use crate::store::lent::state::{EMPTY, INVALID, VALID};
 
 /// The kind of every slot, the usable of every Valid bank, the active slot.
@@ -18,7 +19,7 @@ impl Told {
         let mut told = Told {
             kinds: Vec::new(),
             usable: Vec::new(),
-            active: leading(active).ok_or_else(wrong)? as usize,
+            active: leading(active).ok_or_else(wrong)?,
         };
         for word in slots.split(['[', ']', ' ', ',']) {
             match word {
@@ -34,11 +35,6 @@ impl Told {
     }
 }
 
-fn leading(text: &str) -> Option<u32> {
-    let end = text.find(|c: char| !c.is_ascii_digit());
-    text[..end.unwrap_or(text.len())].parse().ok()
-}
-
 #[cfg(test)]
 mod tests {
     use super::*;
@@ -49,14 +45,7 @@ mod tests {
     fn what_debug_tells_is_read() {
         let record = Record::live(b"rate", b"123456789");
         let valid = image::bank(&Header::default(), &[record]);
-        let image = [
-            vec![0; BANK],
-            valid.clone(),
-            vec![0xFF; BANK],
-            valid,
-            vec![0; BANK],
-        ]
-        .concat();
+        let image = [vec![0; BANK], valid.clone(), vec![0xFF; BANK], valid, vec![0; BANK]].concat();
         let told = Told::read(&format!("{:?}", v3::Nvram::parse(&image).unwrap())).unwrap();
         assert_eq!(told.kinds, [INVALID, VALID, EMPTY, VALID, INVALID]);
         assert_eq!((told.usable, told.active), (vec![65_536; 2], 1));

@@ -1,0 +1,160 @@
+//! The comparisons can fail: faults planted in the port are found among random inputs, and made as
+//! small as is said.
+
+mod faults;
+
+use proptest::strategy::Strategy;
+
+use super::any_state::AnyState;
+use super::banks::{self, Banks, PortReader};
+use super::checksum::{self, Checksum};
+use super::runs::Runs;
+use crate::describe::{case, run, Bytes, Run, Style};
+use crate::judge::{Comparison, Difference, Judge, Mode, Part};
+use crate::partition::lent::{self, Lending};
+use crate::partition::slot::Slot;
+use crate::partition::Read;
+use crate::store::fixed::two_banks;
+use crate::store::lent::port::{Done, Port};
+use faults::*;
+
+/// The first difference among many inputs, made small.
+fn found<C: Comparison>(
+    comparison: &C,
+    strategy: impl Strategy<Value = C::Input> + 'static,
+) -> Difference<C::Input> {
+    let inputs = Part::drawn("", 20_000, strategy).inputs;
+    let found = Judge::new(Mode::Short, 1).part(comparison, "", inputs);
+    found.expect_err("a difference")
+}
+
+fn has(told: &str, words: &[&str]) {
+    for word in words {
+        assert!(told.contains(word), "{word}: {told}");
+    }
+}
+
+/// A fault, how many calls and records there are at most in the run that shows it, and words of
+/// what is told.
+type Row = (fn(&mut Done), usize, usize, &'static [&'static str]);
+
+const RUNS: [Row; 6] = [
+    (the_first_wins, 0, 0, &["01's state:   n 2, active 0", "port's state: n 2, active 1"]),
+    (writes_and_refuses, 0, 1, &["the work area from 0 on, 01: [5a, "]),
+    (kills_one, 1, 2, &["call 1: remove, key "]),
+    (full_early, 1, 0, &["01:   0\n  port: 8"]),
+    (finds_nothing, 1, 0, &["Rust: 0, found 0, place 0", "port: 0, found 1, place 0"]),
+    (whole_banks, 1, 0, &["call 1: whole image", "port: 0, length 65536, "]),
+];
+
+const MOVING_RUNS: [Row; 15] = [
+    (asks_for_nothing, 1, 0, &["port: 0, erase 0 at 0, write at 0, length 0"]),
+    (writes_the_old_bank, 3, 2, &["01:   0, erase ", "port: 0, erase "]),
+    (counts_twice, 3, 2, &["tally 1", "tally 2"]),
+    (erases_the_empty, 3, 2, &["01:   0, erase 0 at 0", "port: 0, erase 1 at "]),
+    (writes_the_dead_wrong, 3, 2, &["from 26 on, 01: 7c", "port: ff"]),
+    (drops_the_dead, 3, 2, &["from 24 on, 01: aa557c", "port: "]),
+    (counts_the_dead, 3, 2, &["01:   0, erase ", "port: 9, erase 0"]),
+    (keeps_the_generation, 3, 2, &["from 8 on, 01: "]),
+    (keeps_the_state, 3, 2, &["01's state: ", "port's state: "]),
+    (keeps_what_is_usable, 3, 2, &["01's state: ", "port's state: "]),
+    (clears_the_old_slot, 3, 2, &["01's state: ", "port's state: "]),
+    (writes_behind_the_length, 1, 0, &["on, 01: a5", "port: ff"]),
+    (stays_with_12, 2, 2, &["01:   12, erase "]),
+    (forgets_with_12, 2, 2, &["01:   12, erase 1 at ", "port: 12, erase 0 at 0"]),
+    (wraps_with_11, 3, 2, &["01:   11, erase 0"]),
+];
+
+const ANY_STATE: [Row; 2] = [
+    (skips_entries, 0, 0, &["01:   6, found 0"]),
+    (wraps_the_tally, 1, 2, &["tally 4294967295", "tally 0"]),
+];
+
+fn planted(fault: fn(&mut Done)) -> Port {
+    Port { fault: Some(fault) }
+}
+
+fn small((_, calls, records, words): Row, size: (usize, usize), told: &str) {
+    assert!(size.0 <= calls && size.1 <= records, "{size:?}: {told}");
+    has(told, words);
+}
+
+#[test]
+fn faults_are_found_in_runs() {
+    let moving = || Style { tame: 0, ..Style::small() };
+    let rows = RUNS.map(|row| (Style::store(), row)).into_iter();
+    for (style, row) in rows.chain(MOVING_RUNS.map(|row| (moving(), row))) {
+        let runs = Runs { port: planted(row.0) };
+        let Difference { input, why } = found(&runs, run(&style, 20, false));
+        let size = (input.calls.len(), input.image.records());
+        small(row, size, &format!("{input}\n{why}"));
+    }
+}
+
+#[test]
+fn faults_are_found_on_any_state() {
+    for row in ANY_STATE {
+        let any = AnyState { port: planted(row.0) };
+        let Difference { input, why } = found(&any, case(false));
+        let size = (input.calls.len() + input.damages.len() / 2, input.image.records());
+        small(row, size, &format!("{input}\n{why}"));
+    }
+}
+
+#[test]
+fn faults_are_found_in_the_reading_of_banks() {
+    let rows: [(PortReader, usize, &[&str]); 3] = [
+        (usable_off, 2, &["01:   Valid, total 98, ", "port: Valid, total 98, "]),
+        (kind_off, 0, &["flags 07, ", "port: Invalid"]),
+        (attributes_off, 1, &["attributes: 0x1"]),
+    ];
+    for (port, records, words) in rows {
+        let Difference { input, why } = found(&Banks::new(port), banks::random());
+        let told = format!("{input:?}\n{why}");
+        let described = input.slot.described().map_or(0, |bank| bank.records.len() * bank.times);
+        assert!(described <= records, "{told}");
+        has(&told, words);
+    }
+}
+
+/// One too many behind two records or more.
+fn usable_off<'a>(image: &[u8], how: Lending, buffer: &'a mut Vec<u8>) -> Read<'a> {
+    let mut slot = lent::read(image, how, buffer)?;
+    if let Slot::Valid(bank) = &mut slot {
+        bank.usable += usize::from(bank.records.len() > 1);
+    }
+    Ok(slot)
+}
+
+/// Invalid from flags of 7 on.
+fn kind_off<'a>(image: &[u8], how: Lending, buffer: &'a mut Vec<u8>) -> Read<'a> {
+    let slot = lent::read(image, how, buffer)?;
+    let off = matches!(&slot, Slot::Valid(bank) if bank.header.flags >= 7);
+    Ok(if off { Slot::Invalid } else { slot })
+}
+
+fn attributes_off<'a>(image: &[u8], how: Lending, buffer: &'a mut Vec<u8>) -> Read<'a> {
+    let mut slot = lent::read(image, how, buffer)?;
+    if let Slot::Valid(bank) = &mut slot {
+        bank.records.iter_mut().for_each(|r| r.attributes = 0);
+    }
+    Ok(slot)
+}
+
+#[test]
+fn faults_of_the_checksum_are_found() {
+    let long = |data: &[u8]| crc32fast::hash(data) ^ u32::from(data.len() > 999);
+    let Difference { input, why } = found(&Checksum::of(long), checksum::random());
+    assert_eq!((input.start, input.bytes), (0, Bytes::Fill(1000, 0)));
+    has(&why, &["  Rust: ", "\n  port: ", ", with lent tables"]);
+    let odd = |data: &[u8]| crc32fast::hash(data) ^ (data.as_ptr() as u32 & 1);
+    let Difference { input, .. } = found(&Checksum::of(odd), checksum::random());
+    assert_eq!((input.start % 2, input.bytes), (1, Bytes::Fill(0, 0)));
+}
+
+#[test]
+fn an_erase_one_insert_early_is_found() {
+    let runs = Runs { port: planted(erases_early) };
+    let told = runs.compare(&Run::of(&two_banks::run())).unwrap_err();
+    has(&told, &["at call 28 (commit", "01:   0, erase 0 at 0", "port: 0, erase 1 at 65536"]);
+}

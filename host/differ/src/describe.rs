@@ -1,0 +1,23 @@
+//! Inputs as they are described: few and small numbers, of which the bytes are made. Each has one
+//! strategy, which every comparison shares; what is drawn is made smaller on the description.
+
+mod bank;
+mod bytes;
+mod call;
+mod damage;
+pub mod image;
+mod list;
+mod plan;
+mod run;
+mod state;
+mod style;
+mod value;
+
+pub use bank::{slot, Slot};
+pub use bytes::{content, Bytes};
+pub use call::Call;
+pub use damage::{Damage, Place};
+pub use plan::{plan, Action, Plan, SPARE};
+pub use run::{run, Run};
+pub use state::{case, Case};
+pub use style::Style;

@@ -1,0 +1,161 @@
+//! Calls that the store at hand can do something with: lengths and keys are said in its terms, and
+//! made when its book is there.
+
+use ::image::{Record, BANK, SYSTEM_GUID};
+use proptest::prelude::*;
+use proptest::sample::select;
+
+use super::bytes::Bytes;
+use super::list::list;
+use super::style::Style;
+use super::value::{Room, Value};
+use crate::store::book::{Bank, Book, LIVE};
+use crate::store::lent::call::{self, What};
+
+#[derive(Clone, Debug, PartialEq)]
+pub enum Call {
+    Insert(Var, Value),
+    Remove(Var),
+    Lookup(Var),
+    /// With room for so many bytes.
+    Value(Var, usize),
+    /// With room for so many bytes more than it needs.
+    Commit(isize),
+    Whole(isize),
+    /// As it is.
+    Made(call::Call),
+}
+
+/// A key and a type.
+#[derive(Clone, Debug, PartialEq)]
+pub enum Var {
+    Of(Bytes, u32),
+    /// The key of a record of the active bank.
+    Known(usize, u32),
+    /// Key and type of a live one.
+    Live(usize),
+}
+
+impl Call {
+    /// On the store of this book, where it was opened. With `within` a value is cut so that the
+    /// live records stay within the bank's size, and where they cannot a record is removed.
+    pub fn made(&self, book: Option<&Book>, within: bool) -> call::Call {
+        let bank = book.and_then(Book::active_bank);
+        let banks = book.map_or(1, |book| book.slots.len()) as isize;
+        let room = |more: isize, need: isize| (need + more).max(0) as usize;
+        let (what, var) = match self {
+            Call::Made(call) => return call.clone(),
+            Call::Commit(more) => return call::Call::commit(room(*more, BANK as isize)),
+            Call::Whole(more) => return call::Call::whole(room(*more, banks * BANK as isize)),
+            Call::Insert(var, value) => return insert(var, value, bank, within),
+            Call::Remove(var) => (What::Remove, var),
+            Call::Lookup(var) => (What::Lookup, var),
+            Call::Value(var, room) => (What::Value(*room), var),
+        };
+        let (key, typ) = var.made(bank);
+        call::Call { what, key, typ }
+    }
+}
+
+fn insert(var: &Var, value: &Value, bank: Option<&Bank>, within: bool) -> call::Call {
+    let (key, typ) = var.made(bank);
+    let mut value = value.made(bank, key.len());
+    if let (Some(bank), true) = (bank, within) {
+        let Ok(room) = usize::try_from(Room::Size.left(bank, key.len())) else {
+            let (key, typ) = Var::Live(0).made(Some(bank));
+            let what = What::Remove;
+            return call::Call { what, key, typ };
+        };
+        value.truncate(room);
+    }
+    let what = What::Insert(value);
+    call::Call { what, key, typ }
+}
+
+impl Var {
+    fn made(&self, bank: Option<&Bank>) -> (Vec<u8>, u32) {
+        let records = bank.map_or(&[][..], |bank| &bank.records);
+        let nth = |i: &usize, of: fn(&&Record) -> bool| {
+            let count = records.iter().filter(of).count().max(1);
+            records.iter().filter(of).nth(i % count)
+        };
+        let none = || b"a".to_vec();
+        match self {
+            Var::Of(key, typ) => (key.made(), *typ),
+            Var::Known(i, typ) => (nth(i, |_| true).map_or_else(none, |r| r.key.clone()), *typ),
+            Var::Live(i) => match nth(i, |r| r.state == LIVE) {
+                Some(r) => (r.key.clone(), u32::from(r.guid == SYSTEM_GUID)),
+                None => (none(), 0),
+            },
+        }
+    }
+}
+
+fn typ() -> impl Strategy<Value = u32> {
+    prop_oneof![12 => select(&[0, 1][..]), 1 => select(&[2, 256, u32::MAX][..]), 1 => any::<u32>()]
+}
+
+fn var(style: &Style) -> impl Strategy<Value = Var> {
+    prop_oneof![
+        4 => (style.key.clone(), typ()).prop_map(|(key, typ)| Var::Of(key, typ)),
+        3 => (0..64usize, typ()).prop_map(|(i, typ)| Var::Known(i, typ)),
+        1 => (0..64usize).prop_map(Var::Live),
+    ]
+}
+
+/// Now and then too little or more than is needed.
+fn room() -> impl Strategy<Value = isize> {
+    let other = select(&[1, 100, BANK as isize, -1, -(BANK as isize) / 2, isize::MIN / 2][..]);
+    prop_oneof![12 => Just(0), 1 => other]
+}
+
+/// An insert or a remove.
+pub fn edit(style: &Style) -> impl Strategy<Value = Call> {
+    prop_oneof![
+        3 => var(style).prop_map(Call::Remove),
+        style.inserts => (var(style), style.insert.clone())
+            .prop_map(|(var, value)| Call::Insert(var, value)),
+    ]
+}
+
+pub fn call(style: &Style) -> impl Strategy<Value = Call> {
+    let value = (var(style), select(&[0, 1, 8, 100, 1000][..]));
+    prop_oneof![
+        5 => var(style).prop_map(Call::Lookup),
+        3 => value.prop_map(|(var, room)| Call::Value(var, room)),
+        style.commits => room().prop_map(Call::Commit),
+        1 => room().prop_map(Call::Whole),
+        3 + style.inserts => edit(style),
+    ]
+}
+
+/// Up to so many of them.
+pub fn calls(style: &Style, most: usize) -> impl Strategy<Value = Vec<Call>> {
+    list(call(style), most)
+}
+
+#[cfg(test)]
+mod tests {
+    use super::*;
+    use ::image::Header;
+
+    /// A bank of size 200 with a live record of 39 bytes, and a value for its key.
+    fn made(value: Value, within: bool) -> What {
+        let image = ::image::bank(&Header::new(200, 1), &[Record::live(b"k", b"v")]);
+        let book = Book::open(&image, usize::MAX).unwrap();
+        Call::Insert(Var::Live(3), value).made(Some(&book), within).what
+    }
+
+    #[test]
+    fn values_are_as_long_as_the_store_has_room() {
+        let room = |room, more| Value::Room(room, more, Some(7));
+        let insert = |len| What::Insert(vec![7; len]);
+        // 24 and 39 bytes are used, and the record has 38 before its value.
+        assert_eq!(made(room(Room::Usable, 1), false), insert(100));
+        assert_eq!(made(room(Room::Size, 0), false), insert(99));
+        assert_eq!(made(room(Room::Part, -1), false), insert(131_072 - 102));
+        assert_eq!(made(room(Room::Gap, 2), false), insert(2));
+        assert_eq!(made(room(Room::Part, 0), true), insert(99));
+        assert_eq!(made(Value::Of(Bytes::Fill(3, 7)), true), insert(3));
+    }
+}

@@ -1,0 +1,46 @@
+//! Images about the lengths at which the opening changes its mind.
+
+use image::{Header, Record, BANK};
+
+use crate::store::lent::call::{Call, What};
+use crate::store::run::Run;
+
+/// An image to make: whole banks, and bytes more or less.
+pub struct Edge {
+    banks: usize,
+    more: isize,
+    /// The last whole bank is Valid, with one record.
+    valid: bool,
+    fill: u8,
+    spare: isize,
+}
+
+pub fn all() -> Vec<Edge> {
+    let mut out = Vec::new();
+    for banks in [0, 1, 2, 16, 17, 18] {
+        for more in [-1, 0, 1, 65_535] {
+            for (fill, valid) in [(0xFF, true), (0xFF, false), (0, false)] {
+                out.extend([-1, 0, 1].map(|spare| Edge { banks, more, valid, fill, spare }));
+            }
+        }
+    }
+    out
+}
+
+impl Edge {
+    pub fn run(&self) -> Run {
+        let len = (self.banks * BANK) as isize + self.more;
+        let mut image = vec![self.fill; len.max(0) as usize];
+        if let Some(last) = image.chunks_exact_mut(BANK).last().filter(|_| self.valid) {
+            let record = Record::live(b"rate", b"123456789");
+            last.copy_from_slice(&image::bank(&Header::default(), &[record]));
+        }
+        let lookup = Call::new(What::Lookup, b"rate", 1);
+        let insert = Call::new(What::Insert(b"x".to_vec()), b"rate", 1);
+        let commit = Call::commit(BANK);
+        let whole = Call::whole(self.banks * BANK);
+        let mut run = Run::new(image, vec![lookup.clone(), insert, lookup, commit, whole]);
+        run.spare = self.spare;
+        run
+    }
+}
