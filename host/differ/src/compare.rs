@@ -9,20 +9,20 @@ mod runs;
 use cuts::{Manner, Repeated, Single, Strikes};
 
 use crate::judge::Judge;
+use crate::partition::lent;
 use crate::store::lent::Port;
 
 /// All of it, a line each; the error tells the first difference.
 pub fn all(judge: &mut Judge) -> Result<(), String> {
+    let port = Port::default();
     judge.hold(&checksum::Checksum::new())?;
-    judge.hold(&banks::Banks::new(crate::partition::lent::read))?;
-    judge.hold(&runs::Runs { port: Port::default() })?;
-    judge.hold(&any_state::AnyState { port: Port::default() })?;
-    judge.hold(&Strikes { port: Port::default() })?;
-    judge.hold(&Single { port: Port::default() })?;
-    for manner in [Manner::StraightOn, Manner::MoveFirst] {
-        judge.hold(&Repeated { port: Port::default(), manner })?;
-    }
-    Ok(())
+    judge.hold(&banks::Banks::new(lent::read))?;
+    judge.hold(&runs::Runs { port })?;
+    judge.hold(&any_state::AnyState { port })?;
+    judge.hold(&Strikes { port })?;
+    judge.hold(&Single { port })?;
+    judge.hold(&Repeated { port, manner: Manner::StraightOn })?;
+    judge.hold(&Repeated { port, manner: Manner::MoveFirst })
 }
 
 #[cfg(test)]

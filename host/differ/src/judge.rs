@@ -100,7 +100,10 @@ impl Judge {
         seed[8..12].copy_from_slice(&crc32fast::hash(place.as_bytes()).to_le_bytes());
         let kept = self.kept.as_ref().map(|folder| {
             let name = place.replace(|c: char| !c.is_ascii_alphanumeric(), "-");
-            let path: &'static str = Box::leak(format!("{folder}/{name}.txt").into_boxed_str());
+            // What is drawn on buffers that stand alone is not what is drawn elsewhere.
+            let alone = if self.mode.alone() { "-alone" } else { "" };
+            let path = format!("{folder}/{name}{alone}.txt");
+            let path: &'static str = Box::leak(path.into_boxed_str());
             Box::new(FileFailurePersistence::Direct(path)) as _
         });
         let config = Config {

@@ -36,7 +36,6 @@ impl Comparison for AnyState {
 mod tests {
     use super::*;
     use crate::judge::{Counts, Judge};
-    use crate::store::lent::Port;
 
     #[test]
     fn some_cases_are_sound_and_most_are_not() {

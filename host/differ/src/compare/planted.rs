@@ -38,11 +38,13 @@ fn has(told: &str, words: &[&str]) {
 /// what is told.
 type Row = (fn(&mut Done), usize, usize, &'static [&'static str]);
 
-const RUNS: [Row; 6] = [
+const RUNS: [Row; 8] = [
+    (turns_all_down, 0, 0, &["01:   0\n  port: 4"]),
     (the_first_wins, 0, 0, &["01's state:   n 2, active 0", "port's state: n 2, active 1"]),
     (writes_and_refuses, 0, 1, &["the work area from 0 on, 01: [5a, "]),
     (kills_one, 1, 2, &["call 1: remove, key "]),
     (full_early, 1, 0, &["01:   0\n  port: 8"]),
+    (says_none, 2, 1, &["Rust: 0, found 1, place ", "port: 0, found 0, place 0"]),
     (finds_nothing, 1, 0, &["Rust: 0, found 0, place 0", "port: 0, found 1, place 0"]),
     (whole_banks, 1, 0, &["call 1: whole image", "port: 0, length 65536, "]),
 ];
@@ -96,7 +98,8 @@ fn faults_are_found_on_any_state() {
     for row in ANY_STATE {
         let any = AnyState { port: planted(row.0) };
         let Difference { input, why } = found(&any, case(false));
-        let size = (input.calls.len() + input.damages.len() / 2, input.image.records());
+        let size = (input.calls.len(), input.image.records());
+        assert!(input.damages.len() <= 1, "{input}");
         small(row, size, &format!("{input}\n{why}"));
     }
 }
@@ -152,9 +155,20 @@ fn faults_of_the_checksum_are_found() {
     assert_eq!((input.start % 2, input.bytes), (1, Bytes::Fill(0, 0)));
 }
 
+/// What is told of a fault in 01's bench case of two banks, which move three times.
+fn in_two_banks(fault: fn(&mut Done), words: &[&str]) {
+    let runs = Runs { port: planted(fault) };
+    has(&runs.compare(&Run::of(&two_banks::run())).unwrap_err(), words);
+}
+
 #[test]
 fn an_erase_one_insert_early_is_found() {
-    let runs = Runs { port: planted(erases_early) };
-    let told = runs.compare(&Run::of(&two_banks::run())).unwrap_err();
-    has(&told, &["at call 28 (commit", "01:   0, erase 0 at 0", "port: 0, erase 1 at 65536"]);
+    let words = ["at call 28 (commit", "01:   0, erase 0 at 0", "port: 0, erase 1 at 65536"];
+    in_two_banks(erases_early, &words);
+}
+
+#[test]
+fn a_move_that_is_repeated_is_found() {
+    let words = ["at call 60 (commit", "port: 0, erase 1 at 0, write at 0", "from 8 on, 01: 03"];
+    in_two_banks(repeats_a_move, &words);
 }

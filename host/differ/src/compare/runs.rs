@@ -64,7 +64,6 @@ impl judge::Counts for Counts {
 mod tests {
     use super::*;
     use crate::judge::Judge;
-    use crate::store::lent::Port;
     use crate::store::run::counts::{By, ERASES, FOUND, MOVES, PAIRS, RUST_REOPENED};
 
     /// What is counted of so many runs.

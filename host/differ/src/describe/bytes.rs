@@ -97,7 +97,7 @@ pub fn key(keys: &'static [&'static [u8]]) -> impl Strategy<Value = Bytes> {
 pub const INNER: &[u8] = b"inner";
 
 /// A whole record, or what only begins as one, and a few bytes before and behind it.
-pub fn within(keys: &'static [&'static [u8]]) -> impl Strategy<Value = Bytes> {
+pub fn with_record(keys: &'static [&'static [u8]]) -> impl Strategy<Value = Bytes> {
     let few = || (0..=4usize, select(&[0, 0xFF, 7][..])).prop_map(|(n, b)| Bytes::Fill(n, b));
     let key = prop_oneof![Just(INNER), select(keys)];
     let length = || prop_oneof![5 => Just(None), 1 => (0..=2u32).prop_map(Some)];

@@ -4,7 +4,7 @@ use ::image::{BANK, HEADER, RECORD};
 use proptest::prelude::*;
 use proptest::sample::select;
 
-use super::bytes::{content, key, odd, within, Bytes};
+use super::bytes::{content, key, odd, with_record, Bytes};
 use super::damage::NUMBERS;
 use super::value::{Room, Value};
 
@@ -132,8 +132,8 @@ impl Style {
             3 => 1_000..4_000u32,
             1 => Just(BANK as u32),
         ];
-        let key = prop_oneof![8 => key(&CUT_KEYS), 1 => within(&CUT_KEYS)];
-        let value = || prop_oneof![5 => odd(long(80)), 2 => within(&CUT_KEYS)];
+        let key = prop_oneof![8 => key(&CUT_KEYS), 1 => with_record(&CUT_KEYS)];
+        let value = || prop_oneof![5 => odd(long(80)), 2 => with_record(&CUT_KEYS)];
         let free = select(&[0, 0, 0, -1, -5, -36, -37][..]);
         let byte = select(&[Some(0), Some(0xFF), Some(7)][..]);
         let room = (free, byte).prop_map(|(more, byte)| Value::Room(Room::Gap, more, byte));

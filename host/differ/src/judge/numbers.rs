@@ -21,14 +21,17 @@ impl Numbers {
 }
 
 impl AddAssign for Numbers {
-    /// Both have the same names, unless there is nothing to add to.
+    /// Both are to have the same names, unless there is nothing to add to.
     fn add_assign(&mut self, more: Numbers) {
         if self.0.is_empty() {
             *self = more;
             return;
         }
-        let both = self.0.iter_mut().zip(more.0);
-        both.for_each(|((_, number), (_, more))| *number += more);
+        assert_eq!(self.0.len(), more.0.len(), "other numbers");
+        for ((name, number), (same, more)) in self.0.iter_mut().zip(more.0) {
+            assert_eq!(*name, same);
+            *number += more;
+        }
     }
 }
 

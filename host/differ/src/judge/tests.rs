@@ -62,7 +62,7 @@ fn a_difference_is_found_made_small_and_told() {
     assert_eq!(found, Err(told.to_string()));
 }
 
-/// The seeds of the first three inputs.
+/// The first three numbers that a part draws.
 fn drawn(seed: u64, place: &str) -> Vec<u64> {
     let mut runner = Judge::new(Mode::Short, seed).runner(place, 3);
     let mut draw = || any::<u64>().new_tree(&mut runner).unwrap().current();

@@ -1,9 +1,9 @@
 //! What a flash answers when it is opened, and how that is judged after a power cut.
 
-use image::BANK;
+use image::{hex, BANK};
 
 use crate::store::book::PART;
-use crate::store::lent::call::{hex, Answer, Call, What};
+use crate::store::lent::call::{Answer, Call, What};
 use crate::store::lent::state::{State, STATE};
 use crate::store::lent::{Lent, Port, Standing};
 
@@ -16,6 +16,7 @@ pub struct Answers {
 }
 
 /// What became of a flash.
+#[must_use]
 #[derive(Clone, Copy, Debug, PartialEq)]
 pub enum Verdict {
     /// Each key and type answers as before the commit or as after it.

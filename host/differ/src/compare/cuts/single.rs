@@ -27,17 +27,14 @@ pub struct Cuts {
 }
 
 impl Cuts {
-    /// Cuts a commit in both orders, and finishes it, after which nothing is to be lost.
+    /// Cuts a commit in both orders, and finishes it.
     pub fn cut(&mut self, device: &mut Device, commit: &Commit) -> Result<(), String> {
         let place = usize::from(commit.moved);
         self.commits[place] += 1;
         for (order, count) in [UPWARD, DOWNWARD].iter().zip(&mut self.counts[place]) {
             cut(device, commit, order, count)?;
         }
-        match device.finish(commit)? {
-            Verdict::Kept => Ok(()),
-            verdict => Err(device.told("finished", verdict)),
-        }
+        finish(device, commit)
     }
 
     /// What is lost downward is an error, and need not be counted.
@@ -85,6 +82,14 @@ pub fn cut(
         }
     }
     Ok(())
+}
+
+/// Carries a commit out, after which nothing is to be lost.
+pub fn finish(device: &mut Device, commit: &Commit) -> Result<(), String> {
+    match device.finish(commit)? {
+        Verdict::Kept => Ok(()),
+        verdict => Err(device.told("finished", verdict)),
+    }
 }
 
 /// Every commit of a plan.

@@ -3,7 +3,7 @@
 use image::{Header, BANK};
 
 use super::device::{Commit, Device};
-use super::single::Cuts;
+use super::single::{finish, Cuts};
 use crate::judge::{Comparison, Mode, Numbers, Part};
 use crate::store::lent::call::{Call, What};
 use crate::store::lent::Port;
@@ -56,7 +56,7 @@ pub fn struck(port: Port, strike: Strike) -> Result<(Device, Commit), String> {
     let mut device = device.ok_or("the flash does not open")?;
     for count in FIRST..FIRST + counts {
         let commit = insert(&mut device, count)?;
-        device.finish(&commit)?;
+        finish(&mut device, &commit)?;
     }
     let commit = insert(&mut device, FIRST + counts)?;
     Ok((device, commit))

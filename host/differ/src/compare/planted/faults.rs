@@ -1,5 +1,7 @@
 //! Faults of the store's calls.
 
+use std::cell::RefCell;
+
 use image::{number, put_number, BANK, HEADER, RECORD};
 
 use crate::store::book::{LIVE, PART};
@@ -59,6 +61,12 @@ pub fn the_first_wins(done: &mut Done) {
     }
 }
 
+pub fn turns_all_down(done: &mut Done) {
+    if opened(done, 0) {
+        done.answer = Answer::Number(4);
+    }
+}
+
 pub fn writes_and_refuses(done: &mut Done) {
     if opened(done, 4) {
         done.work[0] = 0xFF;
@@ -79,6 +87,12 @@ pub fn full_early(done: &mut Done) {
     let entry = told.entries.get(told.active as usize);
     if inserted && entry.is_some_and(|entry| entry.total as usize == PART) {
         refuse(done, 8);
+    }
+}
+
+pub fn says_none(done: &mut Done) {
+    if let Answer::Lookup(0, found) = &mut done.answer {
+        *found = [0; 3];
     }
 }
 
@@ -230,6 +244,20 @@ pub fn skips_entries(done: &mut Done) {
         let (state, work) = (told.bytes(), &done.work);
         let number = feqyondil::lent::lookup(&state, work, &call.key, call.typ, &mut found);
         done.answer = Answer::Lookup(number, found);
+    }
+}
+
+thread_local! {
+    /// The output of the first move.
+    static FIRST: RefCell<Option<Vec<u8>>> = const { RefCell::new(None) };
+}
+
+/// Moves rightly once, and writes those bytes at every later move.
+pub fn repeats_a_move(done: &mut Done) {
+    if moved(done) {
+        let out = done.answer.room_mut().expect("an output");
+        let first = FIRST.with(|first| first.borrow_mut().get_or_insert(out.clone()).clone());
+        out.copy_from_slice(&first);
     }
 }
 

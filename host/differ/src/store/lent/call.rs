@@ -2,7 +2,7 @@
 
 use std::fmt::{self, Display, Formatter};
 
-pub use image::hex;
+use image::hex;
 
 /// What the room for a value, or an output, holds before a call.
 pub const ROOM: u8 = 0xA5;
