@@ -1,5 +1,5 @@
--- What reading ignores, to be read: nothing else cites these laws. The header's reserved byte, a record's reserved and closing bytes, and what comes
--- after the size and the records: other bytes that agree elsewhere are walked alike (`walk-same`), and so read as the same bank (`bank-same`).
+-- What reading ignores: the header's reserved byte, a record's reserved and closing bytes, and what comes after the size and the records. Other bytes
+-- that agree elsewhere are walked alike (`walk-same`), and so read as the same bank (`bank-same`): `settings` goes by that.
 use Prim.Native.Nat.{ℕ, _+_, _-_, _≤_, _<_}
 use mathlib.Core.Path.{_≡_, refl, sym, ap, _∙_, subst}
 use mathlib.Core.List.{List, [], _∷_}
@@ -28,17 +28,17 @@ use Rattle.bank.proofs.ReadBank.{came, came-total}
 -- what is read of s and of t is the same where their bytes are
 module _ (s t : List ℕ) where
   -- the same bytes from a place up to another
-  abbrev Alike : ℕ → ℕ → Type 0
+  abbrev pub Alike : ℕ → ℕ → Type 0
   Alike from to = (i : ℕ) → from ≤ i → i < to → getD t i 0 ≡ getD s i 0
 
   module _ (from to : ℕ) (f : Alike from to) where
-    u32-same : (j : ℕ) → from ≤ j → j + 4 ≤ to → u32At t j ≡ u32At s j
+    pub u32-same : (j : ℕ) → from ≤ j → j + 4 ≤ to → u32At t j ≡ u32At s j
     unfolding u32At
     u32-same j a b =
         simp
         (f j (omega arith) (omega arith), f (j + 1) (omega arith) (omega arith), f (j + 2) (omega arith) (omega arith), f (j + 3) (omega arith) (omega arith))
 
-    part-same : length t ≡ length s → (j n : ℕ) → from ≤ j → j + n ≤ to → take n (drop j t) ≡ take n (drop j s)
+    pub part-same : length t ≡ length s → (j n : ℕ) → from ≤ j → j + n ≤ to → take n (drop j t) ≡ take n (drop j s)
     part-same long j n a b =
         ext-getD 0 (take n (drop j t)) (take n (drop j s)) (simp (length-take, length-drop, long))
         (λ i h. let m : i < n = omega (arith, length-take n (drop j t)) in

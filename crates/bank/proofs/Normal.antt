@@ -7,10 +7,10 @@ use native.Mathlib.Omega.{arith}
 use lib.ListN.{length, getD, set, take, drop, take-append-drop, length-append, length-drop}
 use lib.Seq.{drop-cons, drop-drop, take-all, set-at, length-take-le}
 use Rattle.crc32.specs.Crc32.{Bytes}
-use Rattle.bank.specs.Number.{u16At, u32At, le32}
+use Rattle.bank.specs.Number.{u32At, le32}
 use Rattle.bank.specs.Record.{recordOf, nameAt, valueAt, varHeaderBytes, recordBytes}
 use Rattle.bank.specs.Raw.{Whole}
-use Rattle.bank.proofs.NumberLaws.{length-le32}
+use Rattle.bank.proofs.NumberLaws.{length-le32, start-low, start-high}
 
 -- the bytes of a number that was read
 four-bytes : (a b c d : ℕ) → a < 256 → b < 256 → c < 256 → d < 256 → le32 (a + 256 * b + 65536 * c + 16777216 * d) ≡ a ∷ b ∷ c ∷ d ∷ []
@@ -92,14 +92,6 @@ module _ (x : List ℕ) (w : Whole x) where
       ∙ ap (λ (r : List ℕ). getD x 0 0 ∷ getD x 1 0 ∷ r) (one-more x 2 (omega arith))
       ∙ ap (λ (r : List ℕ). getD x 0 0 ∷ getD x 1 0 ∷ getD x 2 0 ∷ r) (one-more x 3 (omega arith))
 
-  start-low : getD x 0 0 ≡ 0xAA
-  unfolding u16At
-  start-low = omega (arith, w .starts, w .bytes 0, w .bytes 1)
-
-  start-high : getD x 1 0 ≡ 0x55
-  unfolding u16At
-  start-high = omega (arith, w .starts, w .bytes 0, w .bytes 1)
-
   -- the reserved byte zeroed
   abbrev before : List ℕ
   before = 0xAA ∷ 0x55 ∷ getD x 2 0 ∷ 0 ∷ (fields ++ key)
@@ -107,7 +99,7 @@ module _ (x : List ℕ) (w : Whole x) where
   reserved : set x 3 0 ≡ before ++ (getD x (35 + nameAt x) 0 ∷ value)
   reserved =
       ap (λ (l : List ℕ). set l 3 0) head
-      ∙ ap₂ (λ (a b : ℕ). a ∷ b ∷ getD x 2 0 ∷ 0 ∷ drop 4 x) start-low start-high
+      ∙ ap₂ (λ (a b : ℕ). a ∷ b ∷ getD x 2 0 ∷ 0 ∷ drop 4 x) (start-low x (w .bytes) (w .starts)) (start-high x (w .bytes) (w .starts))
       ∙ ap (λ (l : List ℕ). 0xAA ∷ 0x55 ∷ getD x 2 0 ∷ 0 ∷ l)
       (from-four ∙ ap (λ (r : List ℕ). fields ++ r) from-key ∙ sym (append-assoc fields key (getD x (35 + nameAt x) 0 ∷ value)))
 

@@ -7,7 +7,7 @@ use native.Mathlib.Omega.{arith}
 use lib.ListN.{length, getD}
 use lib.Seq.{getD-append-add}
 use Rattle.crc32.specs.Crc32.{Bytes}
-use Rattle.bank.specs.Number.{u32At, le32}
+use Rattle.bank.specs.Number.{u16At, u32At, le32}
 
 pub length-le32 : (n : ℕ) → length (le32 n) ≡ 4
 unfolding le32
@@ -34,3 +34,13 @@ past-u32 p q n k e =
 pub u32-lt : (s : List ℕ) (i : ℕ) → Bytes s → u32At s i < 4294967296
 unfolding u32At
 u32-lt s i k = omega (arith, k i, k (i + 1), k (i + 2), k (i + 3))
+
+-- the two bytes of a record's start number
+module _ (s : List ℕ) (k : Bytes s) (e : u16At s 0 ≡ 0x55AA) where
+  pub start-low : getD s 0 0 ≡ 0xAA
+  unfolding u16At
+  start-low = omega (arith, k 0, k 1)
+
+  pub start-high : getD s 1 0 ≡ 0x55
+  unfolding u16At
+  start-high = omega (arith, k 0, k 1)

@@ -65,7 +65,7 @@ halted-fine s size at c h f =
       inside = f;
     }
 
-part-take : (a k n : ℕ) (s : List ℕ) → a + k ≤ n → take k (drop a (take n s)) ≡ take k (drop a s)
+pub part-take : (a k n : ℕ) (s : List ℕ) → a + k ≤ n → take k (drop a (take n s)) ≡ take k (drop a s)
 part-take zero k n s h = take-take k n s (omega arith)
 part-take (suc a) k zero s h = absurd (omega arith)
 part-take (suc a) k (suc n) [] h = refl
@@ -86,7 +86,7 @@ module _ (s : List ℕ) (n : ℕ) (is : n ≡ sizeAt s) where
   abbrev front : List ℕ
   front = take n s
 
-  front-name : nameAt front ≡ nameAt s
+  pub front-name : nameAt front ≡ nameAt s
   front-name = u32-take s n 8 (omega arith)
 
   front-value : valueAt front ≡ valueAt s

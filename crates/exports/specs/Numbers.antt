@@ -1,9 +1,11 @@
--- A slot as the numbers that cross to C.
+-- A slot and a comparison as the numbers that cross to C.
 use Prim.Native.Nat.{ℕ}
 use mathlib.Core.List.{List, [], _∷_}
+use mathlib.Core.Bool.{cond}
 use lib.ListN.{replicate}
 use Rattle.bank.specs.declared.partition.Slot.{Slot}
 use Rattle.bank.specs.declared.partition.Slot.the-variants.{Short, Empty, Invalid, Valid}
+use Rattle.settings.specs.declared.Compared.{Compared}
 
 abbrev pub slotNumber : Slot → ℕ
 slotNumber Short = 0
@@ -21,3 +23,7 @@ slotFields (Valid p) =
     ∷ p .«total_used»
     ∷ p .«usable_size»
     ∷ []
+
+-- 1 for yes, 0 for no
+abbrev pub sameField : Compared → List ℕ
+sameField c = cond (c .same) 1 0 ∷ []

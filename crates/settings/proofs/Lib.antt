@@ -1,0 +1,5 @@
+pub mod Equal
+pub mod RecordBytes
+pub mod StopLaws
+pub mod SideBySide
+pub mod Written
