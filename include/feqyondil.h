@@ -39,8 +39,8 @@ extern "C" {
 
 /*
  * Numbers of a call. All but the first refuse, and a refusal changes nothing that was lent, except
- * as feqyondil_open, feqyondil_lookup, feqyondil_commit and feqyondil_whole_image say. What to do
- * after each: docs/USING.md, 'Refusals'.
+ * as feqyondil_same_settings, feqyondil_open, feqyondil_lookup, feqyondil_commit and
+ * feqyondil_whole_image say. What to do after each: docs/USING.md, 'Refusals'.
  */
 #define FEQYONDIL_OK 0u
 #define FEQYONDIL_IMAGE_SHORT 1u   /* the image is below 65,536 bytes */
@@ -56,6 +56,7 @@ extern "C" {
 #define FEQYONDIL_LAST_MOVE 11u    /* the bank is to move, and its generation is 4,294,967,295 */
 #define FEQYONDIL_MOVED_OVER 12u   /* the bank has moved, and its live records are over its size */
 #define FEQYONDIL_BANK_OVER 13u    /* a Valid bank's total is over its size */
+#define FEQYONDIL_BANK_LENGTH 14u  /* a bank to compare is not 65,536 bytes */
 
 /* Kinds of a bank as feqyondil_partition_parse answers them; the state's kinds are below. */
 #define FEQYONDIL_SLOT_SHORT 0u   /* too few bytes were lent */
@@ -104,6 +105,18 @@ uint32_t feqyondil_partition_parse(const uint8_t *nvr, size_t nvr_len, uint64_t 
  */
 uint32_t feqyondil_partition_serialize(const uint8_t *nvr, size_t nvr_len, uint8_t *part, size_t part_len,
                                        uint64_t fields[8]);
+
+/*
+ * Whether two banks hold the same settings: both are Valid, their headers' named fields are equal
+ * (FEQYONDIL_FIELD_SIZE to FEQYONDIL_FIELD_COMMON_LIMIT), and their records are equal, in order,
+ * dead ones too. Reserved and closing bytes, what stands behind the records, and the usable size
+ * that follows from it do not count. same gets 1 or 0. That is 1 just where both are Valid and would
+ * be written with equal bytes.
+ *
+ * Refusal: 14 where one or other is not exactly 65,536 bytes; same then gets 0.
+ */
+uint32_t feqyondil_same_settings(const uint8_t *one, size_t one_len, const uint8_t *other, size_t other_len,
+                                 uint64_t same[1]);
 
 /*
  * The store. The caller lends a state and a work area to each call, as the call before left them.

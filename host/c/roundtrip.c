@@ -1,7 +1,8 @@
 /*
  * The header and the library from C: a store is opened, edited and committed until its bank moves,
  * the flash is written as the commits ask, and what is opened again has the values. What the header
- * says of null pointers, of the state's numbers, and of a store after a move and after 12 is tried too.
+ * says of null pointers, of the state's numbers, of a store after a move and after 12, and of the settings
+ * of two banks is tried too.
  */
 #include "board.h"
 
@@ -9,7 +10,7 @@
 #define SIZE 200u
 #define TURNS 9u
 
-static uint64_t requests[4], found[3], length[1], fields[8];
+static uint64_t requests[4], found[3], length[1], fields[8], same[1];
 
 static const uint8_t key[] = {'r', 'a', 't', 'e'};
 
@@ -94,6 +95,21 @@ static void over(void) {
     find(TURNS);
 }
 
+#define ONE flash, FEQYONDIL_BANK_SIZE
+#define OTHER output, FEQYONDIL_BANK_SIZE
+
+/* A reserved byte has no say in the settings of a bank, the generation has; a bank has its length. */
+static void settings(void) {
+    memcpy(output, ONE);
+    output[15] = 255;
+    check(feqyondil_same_settings(ONE, OTHER, same) == FEQYONDIL_OK && same[0] == 1, "the same settings");
+    output[8] ^= 1;
+    check(feqyondil_same_settings(ONE, OTHER, same) == FEQYONDIL_OK && same[0] == 0, "other settings");
+    same[0] = 7;
+    check(feqyondil_same_settings(ONE, output, FEQYONDIL_BANK_SIZE + 1, same) == FEQYONDIL_BANK_LENGTH, "14");
+    check(same[0] == 0, "the answer with 14");
+}
+
 #define NONE NULL, 0
 #define STATE state, sizeof state
 #define WORK work, sizeof work
@@ -108,6 +124,9 @@ static void nulls_of_banks(void) {
     check(feqyondil_partition_parse(NONE, fields) == FEQYONDIL_SLOT_SHORT, "null: parse");
     check(feqyondil_partition_serialize(NONE, output, FLASH, fields) == FEQYONDIL_SLOT_SHORT, "null: serialize");
     check(feqyondil_partition_serialize(flash, FLASH, NONE, fields) == FEQYONDIL_SLOT_SHORT, "null: part");
+    check(feqyondil_same_settings(NONE, OTHER, same) == FEQYONDIL_BANK_LENGTH, "null: settings, one");
+    check(feqyondil_same_settings(ONE, NONE, same) == FEQYONDIL_BANK_LENGTH, "null: settings, other");
+    check(feqyondil_same_settings(NONE, NONE, same) == FEQYONDIL_BANK_LENGTH, "null: settings");
 }
 
 /* Of the edits and lookups; an empty key and an empty value are as good as others. */
@@ -148,6 +167,7 @@ int main(void) {
     erases = turns();
     check(erases == 1, "erases");
     over();
+    settings();
     nulls_of_banks();
     nulls_of_edits();
     nulls_of_flash();

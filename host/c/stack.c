@@ -36,6 +36,11 @@ static void lookup(void) { answer = feqyondil_lookup(STORE, KEY, FEQYONDIL_SYSTE
 static void fetch(void) { answer = (uint32_t)feqyondil_value(STORE, KEY, FEQYONDIL_SYSTEM, output, sizeof output); }
 static void commit(void) { answer = feqyondil_commit(STORE, output, sizeof output, numbers); }
 static void whole_image(void) { answer = feqyondil_whole_image(STORE, output, sizeof output, numbers); }
+/* Of the bank that the commit before it wrote. */
+static void same_settings(void) {
+    answer = feqyondil_same_settings(output, FEQYONDIL_BANK_SIZE, output, FEQYONDIL_BANK_SIZE, numbers);
+    check(numbers[0] == 1, "the same settings");
+}
 
 static const struct {
     const char *name;
@@ -52,6 +57,7 @@ static const struct {
     {"value", fetch},
     {"whole_image", whole_image},
     {"commit", commit},
+    {"same_settings", same_settings},
     {"remove", remove_key},
 };
 

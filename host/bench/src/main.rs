@@ -8,6 +8,7 @@ mod checksum;
 mod lent;
 mod measure;
 mod partition;
+mod settings;
 mod store;
 mod trusting;
 
@@ -35,6 +36,7 @@ fn main() {
     };
     show("checksum", checksum::run);
     show("bank", partition::run);
+    show("settings", settings::run);
     show("store", store::run);
     show("commit", store::run_commits);
 }

@@ -48,7 +48,7 @@ pub fn run(report: &mut Report) {
     report.bar(&name, port, &rust, Some(1.2));
 }
 
-fn port_parse(bank: &[u8]) -> u32 {
+pub fn port_parse(bank: &[u8]) -> u32 {
     is_valid(feqyondil::partition_parse(bank))
 }
 

@@ -5,6 +5,7 @@ mod banks;
 mod checksum;
 mod cuts;
 mod runs;
+mod settings;
 
 use cuts::{Manner, Repeated, Single, Strikes};
 
@@ -17,6 +18,7 @@ pub fn all(judge: &mut Judge) -> Result<(), String> {
     let port = Port::default();
     judge.hold(&checksum::Checksum::new())?;
     judge.hold(&banks::Banks::new(lent::read))?;
+    judge.hold(&settings::Settings { port: settings::port })?;
     judge.hold(&runs::Runs { port })?;
     judge.hold(&any_state::AnyState { port })?;
     judge.hold(&Strikes { port })?;

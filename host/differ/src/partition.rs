@@ -3,6 +3,7 @@
 pub mod lent;
 pub mod model;
 pub mod rust;
+pub mod settings;
 pub mod slot;
 pub mod written;
 

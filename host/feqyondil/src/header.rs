@@ -61,7 +61,7 @@ fn each_number_is_the_headers() {
 }
 
 fn refusals(defined: &mut Defined) {
-    let (from, to) = (defined.place("OK"), defined.place("BANK_OVER"));
+    let (from, to) = (defined.place("OK"), defined.place("BANK_LENGTH"));
     let (ok, named) = (defined.0[from], &defined.0[from + 1..=to]);
     assert_eq!(Refusal::check(ok.1), Ok(()));
     let named: Vec<_> = named.iter().map(|&(name, n)| (camel(name), n)).collect();

@@ -6,8 +6,9 @@ use core::fmt::{self, Display, Formatter};
 macro_rules! refusals {
     ($($name:ident = $number:literal, $text:literal;)*) => {
         /// Why a call is refused, named and numbered as in include/feqyondil.h. What to do after
-        /// each: docs/USING.md, 'Refusals'.
+        /// each: docs/USING.md, 'Refusals'. Later versions may have more.
         #[derive(Clone, Copy, Debug, Eq, PartialEq)]
+        #[non_exhaustive]
         #[repr(u32)]
         pub enum Refusal {
             $(#[doc = $text] $name = $number,)*
@@ -47,6 +48,7 @@ refusals! {
     LastMove = 11, "the bank is to move, and its generation is 4,294,967,295";
     MovedOver = 12, "the bank has moved, and its live records are over its size";
     BankOver = 13, "a Valid bank's total is over its size";
+    BankLength = 14, "a bank to compare is not 65,536 bytes";
 }
 
 impl Refusal {
@@ -88,8 +90,8 @@ mod tests {
     }
 
     #[test]
-    #[should_panic(expected = "the library answered 14")]
+    #[should_panic(expected = "the library answered 4294967295")]
     fn another_number_is_a_fault() {
-        let _ = Refusal::check(14);
+        let _ = Refusal::check(u32::MAX);
     }
 }

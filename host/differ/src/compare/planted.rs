@@ -2,6 +2,7 @@
 //! small as is said.
 
 mod faults;
+mod settings;
 
 use proptest::strategy::Strategy;
 

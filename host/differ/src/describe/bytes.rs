@@ -65,6 +65,12 @@ impl Debug for Bytes {
     }
 }
 
+/// So many bytes more or less are lent.
+pub fn lend(bytes: &mut Vec<u8>, more: isize) {
+    let len = bytes.len() as isize + more;
+    bytes.resize(len.max(0) as usize, 7);
+}
+
 /// Bytes of one value or random ones, of a length.
 pub fn content(len: impl Strategy<Value = usize>) -> impl Strategy<Value = Bytes> {
     let byte = select(&[Some(0), Some(0xFF), None, None][..]);

@@ -2,19 +2,19 @@
 
 use std::fmt::{self, Display, Formatter};
 
-use ::image::{number, put_number, HEADER};
+use ::image::{number, put_number};
 use proptest::prelude::*;
 use proptest::sample::select;
 
 use super::bank::keep;
-use super::bytes::Bytes;
+use super::bytes::{lend, Bytes};
 use super::call::{call, calls, Call};
 use super::damage::{damage, field, numbers, Damage, Place};
 use super::image::{image, Image};
 use super::list::{list, needed};
 use super::run::{made_calls, standing, RECORDS};
 use super::style::Style;
-use crate::store::book::{size, Bank, Book, Slot, PART};
+use crate::store::book::{Book, Slot, PART};
 use crate::store::fuzz;
 use crate::store::lent::state::{entry_at, total_at, ENTRIES, STATE};
 use crate::store::lent::Standing;
@@ -73,10 +73,6 @@ impl Case {
 
 impl StateDamage {
     fn apply(&self, case: &mut fuzz::Case, slots: &[Slot]) {
-        let lend = |bytes: &mut Vec<u8>, more: isize| {
-            let len = bytes.len() as isize + more;
-            bytes.resize(len.max(0) as usize, 7);
-        };
         match self {
             StateDamage::State(damage) => {
                 let entries: Vec<usize> = (0..ENTRIES).map(entry_at).collect();
@@ -101,7 +97,7 @@ impl StateDamage {
             return;
         };
         let (starts, total) = match slots.get(i) {
-            Some(Slot::Valid(bank)) => (starts(bank), bank.total()),
+            Some(Slot::Valid(bank)) => (bank.starts(), bank.total()),
             _ => (Vec::new(), 0),
         };
         match (self, starts.last()) {
@@ -127,16 +123,6 @@ impl StateDamage {
             _ => {}
         }
     }
-}
-
-/// Where the records of a bank start in its part.
-fn starts(bank: &Bank) -> Vec<usize> {
-    let mut at = HEADER;
-    let start = |record| {
-        at += size(record);
-        at - size(record)
-    };
-    bank.records.iter().map(start).collect()
 }
 
 impl Display for Case {

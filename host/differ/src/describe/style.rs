@@ -91,6 +91,11 @@ impl Style {
         }
     }
 
+    /// Banks with few records of few keys, or full of them, and mostly Valid.
+    pub fn pair() -> Self {
+        Style { times: times(3), bank_of: 8, damaged_of: Some(8), ..Style::store() }
+    }
+
     /// Banks that a few inserts fill, mostly without limits, and many commits.
     pub fn small() -> Self {
         let size = prop_oneof![

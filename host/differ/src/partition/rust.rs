@@ -2,7 +2,7 @@
 
 use std::borrow::Cow;
 use std::fmt::Display;
-use std::panic::catch_unwind;
+use std::panic::{catch_unwind, UnwindSafe};
 use std::str::FromStr;
 
 use image::{Header, Record};
@@ -14,7 +14,16 @@ use super::{written, Read};
 /// How the first bank of `image` is read. The second is to be Valid and without records:
 /// without a Valid bank the Rust says nothing. A panic is an answer too.
 pub fn read(image: &[u8]) -> Read<'_> {
-    catch_unwind(|| opened(image)).unwrap_or_else(|_| Err("it panics".to_string()))
+    told(|| opened(image))
+}
+
+/// Whether the two banks of `image` are Valid, with equal header fields and records.
+pub fn same_settings(image: &[u8]) -> Result<bool, String> {
+    told(|| compared(image))
+}
+
+fn told<T>(answer: impl FnOnce() -> Result<T, String> + UnwindSafe) -> Result<T, String> {
+    catch_unwind(answer).unwrap_or_else(|_| Err("it panics".to_string()))
 }
 
 fn opened(image: &[u8]) -> Read<'_> {
@@ -106,14 +115,36 @@ pub fn leading<T: FromStr>(text: &str) -> Option<T> {
 
 /// The Rust writes what it read; where the records pass the size it would never end.
 fn written_back(store: &v3::Nvram, bank: &Bank<&[u8]>) -> Result<(), String> {
-    let size = bank.header.size as usize;
-    if bank.total() > size {
+    if bank.is_over() {
         return Ok(());
     }
     let bytes = store.serialize().map_err(|e| format!("{e:?}"))?;
+    let size = bank.header.size as usize;
     match written::read(&bytes[..size], bank.total(), bank.usable)? == *bank {
         true => Ok(()),
         false => Err("it writes another bank than it read".to_string()),
+    }
+}
+
+/// Where it can write both banks, what it writes has to say the same.
+fn compared(image: &[u8]) -> Result<bool, String> {
+    // It refuses the image where no bank is Valid.
+    let Ok(store) = v3::Nvram::parse(image) else {
+        return Ok(false);
+    };
+    let [one, other] = peek::valid_banks(&store)[..] else {
+        return Ok(false);
+    };
+    let (one, other) = (view(one)?, view(other)?);
+    let same = one.same_settings(&other);
+    if one.is_over() || other.is_over() {
+        return Ok(same);
+    }
+    let bytes = store.serialize().map_err(|e| format!("{e:?}"))?;
+    let (first, second) = bytes.split_at(one.header.size as usize);
+    match (first == second) == same {
+        true => Ok(same),
+        false => Err(format!("of fields and records {same}, and it writes otherwise")),
     }
 }
 

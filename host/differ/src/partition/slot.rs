@@ -42,6 +42,28 @@ impl<B: AsRef<[u8]>> Bank<B> {
     pub fn total(&self) -> usize {
         HEADER + self.records.iter().map(size).sum::<usize>()
     }
+
+    /// Its records pass the size.
+    pub fn is_over(&self) -> bool {
+        self.total() > self.header.size as usize
+    }
+
+    /// Where its records start.
+    pub fn starts(&self) -> Vec<usize> {
+        let mut at = HEADER;
+        let start = |record| {
+            at += size(record);
+            at - size(record)
+        };
+        self.records.iter().map(start).collect()
+    }
+}
+
+impl<B: PartialEq> Bank<B> {
+    /// The headers' fields and the records are equal; usable may be another.
+    pub fn same_settings(&self, other: &Self) -> bool {
+        self.header == other.header && self.records == other.records
+    }
 }
 
 pub fn size<B: AsRef<[u8]>>(record: &Record<B>) -> usize {

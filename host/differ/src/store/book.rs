@@ -9,7 +9,7 @@ pub mod sound;
 
 use super::lent::call::{Answer, Call, What};
 
-pub use bank::{size, Bank, Slot, LIVE, PART};
+pub use bank::{Bank, Slot, LIVE, PART};
 pub use list::Book;
 
 impl Book {

@@ -67,6 +67,11 @@ impl Buffer {
         let mut guards = self.whole[..self.from].iter().chain(&self.whole[self.to..]);
         guards.all(|&b| b == BEFORE)
     }
+
+    /// The same, and it holds these bytes.
+    pub fn still_holds(&self, bytes: &[u8]) -> bool {
+        self.intact() && self.bytes() == bytes
+    }
 }
 
 /// State and work area, lent call after call.
@@ -171,7 +176,7 @@ impl Lent {
 
     /// These buffers are as they were, and no guard was written over.
     fn untouched(&self, lent: &[(&Buffer, &[u8])]) -> Result<(), String> {
-        let same = lent.iter().all(|(b, bytes)| b.intact() && b.bytes() == *bytes);
+        let same = lent.iter().all(|(buffer, bytes)| buffer.still_holds(bytes));
         if same && self.state.intact() && self.work.intact() {
             return Ok(());
         }
