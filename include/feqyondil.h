@@ -88,7 +88,7 @@ void feqyondil_crc32_tables(uint32_t tables[4096]);
 uint32_t feqyondil_crc32_with(const uint32_t tables[4096], const uint8_t *bytes, size_t bytes_len);
 
 /*
- * One bank.
+ * Banks by themselves.
  */
 
 /*
