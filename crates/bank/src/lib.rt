@@ -7,7 +7,6 @@ mod variable;
 pub use header::Head;
 pub use header::StoreHeader;
 pub use number::le32;
-pub use number::u16_at;
 pub use partition::Partition;
 pub use partition::Slot;
 pub use partition::Stop;

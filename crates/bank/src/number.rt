@@ -10,7 +10,7 @@ fn wide16(x: u8) -> u16
     x as u16
 }
 
-pub fn u16_at(s: &[u8], at: usize) -> u16
+pub(crate) fn u16_at(s: &[u8], at: usize) -> u16
     requires { ⌜ at + 2 ≤ length (now s) ⌝ }
     ensures { λ r. ⌜ r ≡ u16At (now (s .entry)) at ⌝ }
 {

@@ -12,8 +12,8 @@ use Rattle.bank.specs.Record.{Record}
 use Rattle.bank.specs.Bank.{Bank, Slot, empty, invalid, valid}
 use Rattle.settings.specs.Same.{sameHeader, sameFields, alike, allAlike, sameSettings}
 
-pub eqb-refl : (n : ℕ) → eqb n n ≡ true
-eqb-refl n = eq-eqb n n refl
+pub eqb-self : (n : ℕ) → eqb n n ≡ true
+eqb-self n = eq-eqb n n refl
 
 pub header-equal : (h g : StoreHeader) → sameHeader h g ≡ true → h ≡ g
 unfolding sameHeader
@@ -33,7 +33,7 @@ header-equal h g e =
 
 pub header-refl : (h : StoreHeader) → sameHeader h h ≡ true
 unfolding sameHeader
-header-refl h = simp eqb-refl
+header-refl h = simp eqb-self
 
 -- the fields that are compared, one by one
 pub record Fields (r q : Record) : Type 0 where
@@ -57,7 +57,7 @@ fields-equal r q e =
 
 pub equal-fields : (r q : Record) → Fields r q → sameFields r q ≡ true
 unfolding sameFields
-equal-fields r q f = rw (f .attributes, f .guid, f .key, f .value) (simp (eqb-refl, eq-bytes-refl))
+equal-fields r q f = rw (f .attributes, f .guid, f .key, f .value) (simp (eqb-self, eq-bytes-refl))
 
 pub alike-equal : (r q : Record) → alike eqb r q ≡ true → r ≡ q
 unfolding alike
@@ -70,7 +70,7 @@ alike-equal r q e =
 pub alike-refl : (r : Record) → alike eqb r r ≡ true
 unfolding alike
 alike-refl r =
-    rw (eqb-refl (r .state)) (equal-fields r r (record { attributes = refl; guid = refl; key = refl; value = refl }))
+    rw (eqb-self (r .state)) (equal-fields r r (record { attributes = refl; guid = refl; key = refl; value = refl }))
 
 pub all-equal : (rs qs : List Record) → allAlike eqb rs qs ≡ true → rs ≡ qs
 unfolding allAlike

@@ -1,5 +1,5 @@
 pub mod Equal
-pub mod RecordBytes
 pub mod StopLaws
+pub mod RecordBytes
 pub mod SideBySide
 pub mod Written

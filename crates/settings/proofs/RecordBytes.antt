@@ -21,10 +21,11 @@ use Rattle.bank.proofs.NumberLaws.{start-low, start-high}
 use Rattle.bank.proofs.WalkLaws.{Stands, stands, stands-found, stands-size, stands-name}
 use Rattle.bank.proofs.ReadFine.{part-take, front-name, front-record, front-whole}
 use Rattle.bank.proofs.Normal.{normal}
-use Rattle.bank.proofs.FieldLaws.{name-is, value-is}
+use Rattle.bank.proofs.FieldLaws.{name-is}
 use Rattle.bank.proofs.IgnoreLaws.{Alike, u32-same, part-same}
 use Rattle.settings.specs.Same.{sameFields, alike, alikeAt}
-use Rattle.settings.proofs.Equal.{eqb-refl, Fields, fields-equal, equal-fields}
+use Rattle.settings.proofs.StopLaws.{size-at}
+use Rattle.settings.proofs.Equal.{eqb-self, Fields, fields-equal, equal-fields}
 
 -- the places of a record's value and end, as the code has them
 pub record Lengths (s : List ℕ) (value end : ℕ) : Type 0 where
@@ -37,9 +38,9 @@ module _ (s : List ℕ) (r : Record) (e : found s ≡ got r) where
   pub begun-long : 36 ≤ length s
   begun-long = let d = stands s r e .ends in omega arith
 
-  pub state-is : getD s 2 0 ≡ r .state
+  pub state-at : getD s 2 0 ≡ r .state
   unfolding recordOf
-  state-is = sym (ap (λ (x : Record). x .state) (stands s r e .is))
+  state-at = sym (ap (λ (x : Record). x .state) (stands s r e .is))
 
 pub lengths : (s : List ℕ) (r : Record) → found s ≡ got r → (h : VarHeader) → h ≡ parsedHeader s
     → (value end : ℕ) → value ≡ 36 + h .«name_size» + 0 → end ≡ 36 + h .«name_size» + h .«data_size»
@@ -48,8 +49,8 @@ lengths s r e h p value end a b =
     let st = stands s r e in
     let d = st .ends in
     let i = name-is s (omega arith) h p in
-    let v = value-is s (omega arith) h p in
-    record { value-is = omega arith; end-is = omega arith; within = omega arith }
+    let z = size-at s (omega arith) h p end b in
+    record { value-is = omega arith; end-is = z; within = omega arith }
 
 -- equal parts have equal bytes
 part-alike : (s t : List ℕ) (p m to : ℕ) → p + m ≡ to → take m (drop p s) ≡ take m (drop p t) → Alike s t p to
@@ -185,7 +186,7 @@ module _ (s t : List ℕ) (ks : Bytes s) (kt : Bytes t) (long : length t ≡ len
       }
 
   of-parts : Parts → compare ≡ true
-  of-parts p = rw (p .low, p .high, p .fields, p .value) (simp (eqb-refl, eq-bytes-refl))
+  of-parts p = rw (p .low, p .high, p .fields, p .value) (simp (eqb-self, eq-bytes-refl))
 
   module _ (states : ℕ → ℕ → Bool) where
     differs : compare ≡ false → (o : Item) → found t ≡ o → alikeAt states r o ≡ false

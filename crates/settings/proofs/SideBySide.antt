@@ -1,4 +1,4 @@
--- Two walks side by side: a turn of the loop (`turn-alike`, `turn-other`, `turn-stop`, `turn-fault`, `turn-end`); then two slots by their heads
+-- Two walks side by side: a turn of the loop (`turn-alike`, `turn-other`, `turn-stop`, `turn-fault`, `both-end`); then two slots by their heads
 -- (`headers-other`, `headers-same`, `no-one`, `no-other`), and any bytes lent (`compared-banks`, `compared-other`).
 use Prim.Native.Nat.{ℕ, _+_, _-_, _≤_, _<_}
 use mathlib.Core.Path.{_≡_, refl, sym, ap, ap₂, _∙_, subst}
@@ -119,9 +119,9 @@ module _ (s t : List ℕ) (size at : ℕ) (h : at + 36 < size) where
         pub turn-other : x ≡ false → here ≡ false
         turn-other y = let i = record-here in other-here (i .0) (i .1) (found (drop at t)) refl (compares ∙ y)
 
-pub turn-end : (s t : List ℕ) (size at : ℕ) → size ≤ at + 36 → sameWalks (walkFrom s size at) (walkFrom t size at) ≡ true
+pub both-end : (s t : List ℕ) (size at : ℕ) → size ≤ at + 36 → sameWalks (walkFrom s size at) (walkFrom t size at) ≡ true
 unfolding sameWalks allAlike
-turn-end s t size at h = ap₂ sameWalks (walk-end s size at h) (walk-end t size at h)
+both-end s t size at h = ap₂ sameWalks (walk-end s size at h) (walk-end t size at h)
 
 -- two slots, by their heads
 module _ (s t : List ℕ) where
@@ -182,7 +182,7 @@ module _ (s t : List ℕ) (a : Bool) (p : a ≡ (eqb (length s) bankSize && eqb 
   unfolding compared
   compared-other e = simp (sym p ∙ e)
 
-  pub banks-long : a ≡ true → (length s ≡ 65536) × (length t ≡ 65536)
-  banks-long e =
+  pub both-long : a ≡ true → (length s ≡ 65536) × (length t ≡ 65536)
+  both-long e =
       let k = and-both (eqb (length s) bankSize) (eqb (length t) bankSize) (sym p ∙ e) in
       (eqb-true _ _ (k .0) ∙ bank-size, eqb-true _ _ (k .1) ∙ bank-size)

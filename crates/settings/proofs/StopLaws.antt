@@ -1,12 +1,12 @@
 -- What stands at an offset of a bank: whether reading stops there, and the size of a record. Its cases are `stop-of`, `fault-of` and `record-of`; the others are
 -- what `ends` and `record_size` find.
-use Prim.Native.Nat.{ℕ, _+_, _≤_, _<_}
+use Prim.Native.Nat.{ℕ, _+_, _*_, _≤_, _<_}
 use mathlib.Core.Path.{_≡_, refl, sym, ap, _∙_}
 use mathlib.Core.List.{List}
 use mathlib.Core.Bool.{Bool, true, false, not, cond}
 use native.Mathlib.Omega.{arith}
 use lib.Dec.{ltb, eqb}
-use lib.ListN.{length, take, drop}
+use lib.ListN.{length, getD, take, drop}
 use borrow.Author.Tests.{eq-eqb, le-leb, ltb-true, ltb-false, eqb-true, eqb-false}
 use Rattle.crc32.specs.Crc32.{crc32Of}
 use Rattle.buffers.specs.Bytes.{allBlank}
@@ -50,6 +50,11 @@ record-of (halt c) n e z = absurd (z e)
 
 -- what remains of a bank
 module _ (s : List ℕ) where
+  -- the start number, as the code has it
+  pub start-is : (n : ℕ) → n ≡ getD s 0 0 + 256 * getD s 1 0 + 65536 * 0 + 16777216 * 0 → n ≡ u16At s 0
+  unfolding u16At
+  start-is n e = omega arith
+
   pub ends-start : (u16At s 0 ≡ 0x55AA → ⊥) → true ≡ endsAt (found s)
   unfolding endsAt
   ends-start n = go (allBlank (take 36 s)) refl
@@ -79,8 +84,8 @@ module _ (s : List ℕ) where
         go false q = let l : end ≤ length s = ltb-false _ _ q in sym (goes-on (omega arith))
 
   -- where it does not stop, there is a start number, and lengths that fit
-  pub begins : endsAt (found s) ≡ false → (u16At s 0 ≡ 0x55AA) × (sizeAt s ≤ length s)
-  begins e = go (eqb (u16At s 0) 0x55AA) refl
+  pub record-begins : endsAt (found s) ≡ false → (u16At s 0 ≡ 0x55AA) × (sizeAt s ≤ length s)
+  record-begins e = go (eqb (u16At s 0) 0x55AA) refl
     where
       fits : (b : u16At s 0 ≡ 0x55AA) (t : Bool) → ltb (length s) (sizeAt s) ≡ t → sizeAt s ≤ length s
       fits b true q = let z : true ≡ false = sym q ∙ ends-length b (sizeAt s) refl ∙ e in clash cc
@@ -96,7 +101,7 @@ module _ (s : List ℕ) (long : 36 ≤ length s) (h : VarHeader) (p : h ≡ pars
   size-at = omega (arith, name-is s long h p, value-is s long h p)
 
   pub end-fits : endsAt (found s) ≡ false → end ≤ length s
-  end-fits e = omega (arith, size-at, begins s e .1)
+  end-fits e = omega (arith, size-at, record-begins s e .1)
 
 -- by the step that the reader of a bank would take
 abbrev sizeBy : Step → ℕ

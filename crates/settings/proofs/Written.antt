@@ -32,7 +32,7 @@ use Rattle.bank.proofs.PartitionLaws.{bank-size}
 use Rattle.bank.proofs.IgnoreLaws.{Ignored, bank-same}
 use Rattle.settings.specs.declared.Compared.{Compared}
 use Rattle.settings.specs.Same.{sameSettings, compared, WrittenAlike}
-use Rattle.settings.proofs.Equal.{eqb-refl, EqualBanks, yes-equal, equal-yes}
+use Rattle.settings.proofs.Equal.{eqb-self, EqualBanks, yes-equal, equal-yes}
 use Rattle.settings.proofs.SideBySide.{compared-banks, compared-other}
 
 -- what is written determines the records
@@ -100,7 +100,7 @@ equal-output b c q =
 module _ (s t : List ℕ) (b c : Bank) (ls : length s ≡ bankSize) (lt : length t ≡ bankSize) (p : readBank s ≡ valid b) (q : readBank t ≡ valid c) where
   equal-same : EqualBanks b c → compared s t .same ≡ true
   equal-same e =
-      let l : (eqb (length s) bankSize && eqb (length t) bankSize) ≡ true = rw (ls, lt) (simp eqb-refl) in
+      let l : (eqb (length s) bankSize && eqb (length t) bankSize) ≡ true = rw (ls, lt) (simp eqb-self) in
       ap (λ (x : Compared). x .same) (compared-banks s t _ refl l) ∙ ap₂ sameSettings p q ∙ equal-yes b c e
 
   written-same : Bytes s → Bytes t → output b ≡ output c → compared s t .same ≡ true

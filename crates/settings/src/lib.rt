@@ -4,7 +4,6 @@ use bank::Partition;
 use bank::StoreHeader;
 use bank::VarHeader;
 use bank::Variable;
-use bank::u16_at;
 ghost use mathlib.Core.Path.{_≡_};
 ghost use mathlib.Core.Bool.{Bool, false, _&&_};
 ghost use Prim.Native.Nat.{ℕ, _≤_};
@@ -71,7 +70,7 @@ fn ends(nvr: &[u8]) -> bool
     requires { ⌜ 36 ≤ length (now nvr) ⌝ }
     ensures { λ r. ⌜ r ≡ endsAt (found (now (nvr .entry))) ⌝ }
 {
-    if u16_at(nvr, 0) != Variable::DATA {
+    if buffers::u32_of(nvr[0], nvr[1], 0, 0) != Variable::DATA as u32 {
         return true;
     }
     let header = VarHeader::parse(nvr);

@@ -1,6 +1,6 @@
 -- `same_record`: the states by equality, the rest by `same_fields`.
 use native.Mathlib.Omega.{arith}
-use Rattle.settings.proofs.RecordBytes.{state-is, begun-long}
+use Rattle.settings.proofs.RecordBytes.{state-at, begun-long}
 use borrow.Author.Needs.{needs}
 use Rattle.settings.proofs.same_record.Statement.{statement}
 use Rattle.settings.proofs.same_record.Tie as tie
@@ -15,7 +15,7 @@ same-fields-requires : tie.Need-same-fields-requires
 same-fields-requires c κs = search needs
 
 returns : tie.Need-returns
-returns c = λ r e. rw (state-is _ r e) (c .same-fields .ensures _ r e)
+returns c = λ r e. rw (state-at _ r e) (c .same-fields .ensures _ r e)
 
 pub same-record-spec : {M : Type 1} → statement M
 same-record-spec =

@@ -1,4 +1,4 @@
--- `same_records`: both walks from 24 compare as those from `at` on; `turn-alike` passes two records, `turn-stop`, `turn-fault`, `turn-other` and `turn-end`
+-- `same_records`: both walks from 24 compare as those from `at` on; `turn-alike` passes two records, `turn-stop`, `turn-fault`, `turn-other` and `both-end`
 -- are the exits.
 use native.Mathlib.Omega.{arith}
 use borrow.Author.Needs.{needs}
@@ -8,7 +8,7 @@ use Prim.Native.Nat.{_-_, _≤_}
 use lib.ListN.{length-take, length-drop}
 use Rattle.bank.specs.Read.{walkFrom}
 use Rattle.settings.specs.Same.{sameWalks}
-use Rattle.settings.proofs.SideBySide.{record-lent, record-within, turn-alike, turn-other, turn-stop, turn-fault, turn-end}
+use Rattle.settings.proofs.SideBySide.{record-lent, record-within, turn-alike, turn-other, turn-stop, turn-fault, both-end}
 use Rattle.settings.proofs.same_records.Statement.{statement}
 use Rattle.settings.proofs.same_records.Tie as tie
 
@@ -103,7 +103,7 @@ loop-again c = let w = record-within (c .before .before .before .before .before 
     (omega (arith, w .1), c .before .before .before .before .before .before .before .before .before .before .before .loop .inv .1 ∙ turn-alike (c .before .before .before .before .before .before .before .before .before .before .before .before .before .before .args .one .now) (c .before .before .before .before .before .before .before .before .before .before .before .before .before .before .args .other .now) (c .before .before .before .before .before .before .before .before .before .before .before .before .before .before .args .size) (c .before .before .before .before .before .before .before .before .before .before .before .loop .at) (omega arith) _ (c .before .before .before .before .before .record-size .ensures) (c .before .before .before .before .if2 .left) _ (c .before .same-record .ensures) (not-false _ (c .if3 .left)))
 
 returns-4 : tie.Need-returns-4 Inv-loop μ-loop
-returns-4 c = sym (c .before .loop .inv .1 ∙ turn-end (c .before .before .before .before .args .one .now) (c .before .before .before .before .args .other .now) (c .before .before .before .before .args .size) (c .before .loop .at) (omega arith))
+returns-4 c = sym (c .before .loop .inv .1 ∙ both-end (c .before .before .before .before .args .one .now) (c .before .before .before .before .args .other .now) (c .before .before .before .before .args .size) (c .before .loop .at) (omega arith))
 
 pub same-records-spec : {M : Type 1} → statement M
 same-records-spec =

@@ -3,7 +3,7 @@ use mathlib.Core.Path.{sym, ap, _∙_}
 use mathlib.Core.Bool.{Bool}
 use borrow.Author.Needs.{needs}
 use borrow.Author.Tests.{not-true, not-false}
-use Rattle.settings.proofs.SideBySide.{compared-banks, compared-other, banks-long}
+use Rattle.settings.proofs.SideBySide.{compared-banks, compared-other, both-long}
 use Rattle.settings.proofs.same_settings.Statement.{statement}
 use Rattle.settings.proofs.same_settings.Tie as tie
 
@@ -15,7 +15,7 @@ returns c = sym (compared-other _ _ _ (c .before .are-banks .ensures) (not-true 
 
 same-slots-requires : tie.Need-same-slots-requires
 same-slots-requires c κs = let a = c .before .before .before .before .args in
-    banks-long (a .one .now) (a .other .now) _ (c .before .are-banks .ensures) (not-false _ (c .if1 .left))
+    both-long (a .one .now) (a .other .now) _ (c .before .are-banks .ensures) (not-false _ (c .if1 .left))
 
 returns-2 : tie.Need-returns-2
 returns-2 c = ap (λ (b : Bool). record { number = 0; same = b }) (c .same-slots .ensures)
