@@ -1,4 +1,4 @@
-# The main job: a program of crates/ and a bank for its standard input.
+# The main job: a program of crates/, banklist or bankcause, and a bank for its standard input.
 PROGRAM = banklist
 SAMPLE = samples/bank.bin
 PREFIX = /usr/local
@@ -8,9 +8,9 @@ PREFIX = /usr/local
 .PHONY: help run test lib install differ bench clean
 
 help:
-	@echo 'make run               lists the bank of samples/; SAMPLE=file lists another'
+	@echo 'make run               lists the bank of samples/; SAMPLE=file lists another, PROGRAM=bankcause says what spoils it'
 	@echo 'make test              proves every function, tries the must-fail edits, compares with the Rust'
-	@echo 'make lib               dist/: the library, its header and banklist'
+	@echo 'make lib               dist/: the library, its header, banklist and bankcause'
 	@echo 'make install           puts dist/ below PREFIX ($(PREFIX)), and below DESTDIR where that is set'
 	@echo 'make differ            compares with the Rust on many more inputs; SEED=N repeats a run'
 	@echo 'make bench             times the library and the Rust side by side'

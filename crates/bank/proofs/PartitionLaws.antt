@@ -3,9 +3,10 @@
 use Prim.Native.Nat.{ℕ, _+_, _-_, _≤_, _<_}
 use mathlib.Core.Path.{_≡_, refl, sym, ap, ap₂, _∙_}
 use mathlib.Core.Bool.{true, false}
-use mathlib.Core.List.{List}
+use mathlib.Core.List.{List, [], _∷_}
 use native.Mathlib.Omega.{arith}
-use borrow.Author.Tests.{lt-leb, le-leb}
+use borrow.Author.Tests.{lt-leb, le-leb, leb-true, leb-false}
+use lib.Dec.{leb}
 use lib.ListN.{length, take, drop, length-drop}
 use Rattle.crc32.specs.Crc32.{Bytes}
 use Rattle.buffers.proofs.Laws.{clash}
@@ -21,11 +22,11 @@ use Rattle.bank.specs.declared.variable.Step.{Step}
 use Rattle.bank.specs.declared.variable.Step.the-variants.{Next, Halt}
 use Rattle.bank.specs.Record.{Record, sizeOf}
 use Rattle.bank.specs.Header.{readHeader}
-use Rattle.bank.specs.Read.{Item, got, halt, found, walkFrom, usableAt, spoils, slotOf, erasedSlot, afterHead, readBank}
-use Rattle.bank.specs.Bank.{bankSize}
+use Rattle.bank.specs.Read.{Item, got, halt, found, Walk, halted, withFirst, walkFrom, usableAt, spoils, slotOf, erasedSlot, afterHead, readBank}
+use Rattle.bank.specs.Bank.{bankSize, ofLent}
 use Rattle.bank.specs.Totals.{total}
 use Rattle.bank.specs.Answer.{stepOf, walked, partitionOf, answer, parsed}
-use Rattle.bank.proofs.WalkLaws.{stands, stands-size, walk-at, walk-end, walk-got, walk-halt}
+use Rattle.bank.proofs.WalkLaws.{by-test, stands, stands-size, walk-at, walk-end, walk-got, walk-halt}
 use Rattle.bank.proofs.ReadFine.{FineWalk, walk-fine}
 
 step-next : (o : Item) (n : ℕ) → Next n ≡ stepOf o → (r : Record) × (o ≡ got r) × (sizeOf r ≡ n)
@@ -38,10 +39,19 @@ unfolding stepOf
 step-halt (got r) c e = cc
 step-halt (halt d) c e = cc
 
+-- a record that was read counts
+pub one-read : (k : ℕ) (r : Record) (w : Walk) → walked k (withFirst r w) ≡ walked (k + 1) w
+unfolding walked
+one-read k r w = let e : k + length (r ∷ w .records) ≡ k + 1 + length (w .records) = omega arith in λ i. record { at = w .at; stop = w .stop; count = e i }
+
+pub none-read : (k : ℕ) (c : Stop) (at : ℕ) → walked k (halted c at) ≡ record { at = at; stop = c; count = k }
+unfolding walked
+none-read k c at = let e : k + length {A = Record} [] ≡ k = omega arith in λ i. record { at = at; stop = c; count = e i }
+
 pub record Turned (s : List ℕ) (size at n : ℕ) : Type 0 where
   pub more : 36 < n
   pub within : at + n ≤ length s
-  pub same : walked (walkFrom s size at) ≡ walked (walkFrom s size (at + n))
+  pub same : (k : ℕ) → walked k (walkFrom s size at) ≡ walked (k + 1) (walkFrom s size (at + n))
 
 module _ (s : List ℕ) (size at : ℕ) (r : Step) (h : at + 36 < size) (e : r ≡ stepOf (found (take (length s - at) (drop at s)))) where
   here : r ≡ stepOf (found (drop at s))
@@ -52,24 +62,22 @@ module _ (s : List ℕ) (size at : ℕ) (r : Step) (h : at + 36 < size) (e : r �
   turn-next n f =
       let o = step-next (found (drop at s)) n (sym f ∙ here) in
       let st = stands (drop at s) (o .0) (o .1) in
-      let q : walked (walkFrom s size at) ≡ walked (walkFrom s size (at + sizeOf (o .0))) =
-      ap walked (walk-got s size at (o .0) h (o .1)) in
       record {
         more = omega (arith, o .2);
         within = omega (arith, o .2, stands-size (drop at s) (o .0) st, st .ends, length-drop at s);
-        same = q ∙ ap (λ (i : ℕ). walked (walkFrom s size (at + i))) (o .2);
+        same =
+            λ k. ap (walked k) (walk-got s size at (o .0) h (o .1)) ∙ one-read k (o .0) (walkFrom s size (at + sizeOf (o .0)))
+            ∙ ap (λ (i : ℕ). walked (k + 1) (walkFrom s size (at + i))) (o .2);
       }
 
-  pub turn-halt : (c : Stop) → r ≡ Halt c → walked (walkFrom s size at) ≡ record { at = at; stop = c }
-  unfolding walked
-  turn-halt c f = ap walked (walk-halt s size at c h (step-halt (found (drop at s)) c (sym f ∙ here)))
+  pub turn-halt : (k : ℕ) (c : Stop) → r ≡ Halt c → walked k (walkFrom s size at) ≡ record { at = at; stop = c; count = k }
+  turn-halt k c f = ap (walked k) (walk-halt s size at c h (step-halt (found (drop at s)) c (sym f ∙ here))) ∙ none-read k c at
 
-pub turn-end : (s : List ℕ) (size at : ℕ) → size ≤ at + 36 → walked (walkFrom s size at) ≡ record { at = at; stop = End }
-unfolding walked
-turn-end s size at h = ap walked (walk-end s size at h)
+pub turn-end : (s : List ℕ) (size at k : ℕ) → size ≤ at + 36 → walked k (walkFrom s size at) ≡ record { at = at; stop = End; count = k }
+turn-end s size at k h = ap (walked k) (walk-end s size at h) ∙ none-read k End at
 
 -- a bank whose header was read, in the numbers that the code has
-module _ (s : List ℕ) (h : StoreHeader) (e : readHeader s ≡ Good h) (w : Walked) (q : w ≡ walked (walkFrom s (h .size) 24)) where
+module _ (s : List ℕ) (h : StoreHeader) (e : readHeader s ≡ Good h) (w : Walked) (q : w ≡ walked 0 (walkFrom s (h .size) 24)) where
   at-is : w .at ≡ walkFrom s (h .size) 24 .at
   unfolding walked
   at-is = ap (λ (x : Walked). x .at) q
@@ -131,14 +139,23 @@ pub bank-size : bankSize ≡ 65536
 unfolding bankSize
 bank-size = refl
 
-module _ (s : List ℕ) where
-  pub parsed-short : length s < 65536 → Short ≡ parsed s
-  unfolding parsed
-  parsed-short h = let l : length s < bankSize = omega (arith, bank-size) in simp (lt-leb _ _ l)
+module _ {A : Type 0} (short : A) (of : List ℕ → A) (s : List ℕ) where
+  pub lent-short : length s < 65536 → short ≡ ofLent short of s
+  lent-short h = let l : length s < bankSize = omega (arith, bank-size) in simp (lt-leb _ _ l)
 
-  pub parsed-long : (n : ℕ) → n ≡ 65536 → 65536 ≤ length s → answer (readBank (take n (drop 0 s))) ≡ parsed s
-  unfolding parsed
-  parsed-long n e h =
+  pub lent-long : (n : ℕ) → n ≡ 65536 → 65536 ≤ length s → of (take n (drop 0 s)) ≡ ofLent short of s
+  lent-long n e h =
       let l : bankSize ≤ length s = omega (arith, bank-size) in
       let k : n ≡ bankSize = omega (arith, bank-size) in
       rw k (simp (le-leb _ _ l))
+
+  pub lent-by : (P : A → Type 0) → (bankSize ≤ length s → P (of (take bankSize s))) → (length s < bankSize → P short) → P (ofLent short of s)
+  lent-by P f g = by-test P (leb bankSize (length s)) _ _ (λ t. f (leb-true _ _ t)) (λ t. g (leb-false _ _ t))
+
+pub parsed-short : (s : List ℕ) → length s < 65536 → Short ≡ parsed s
+unfolding parsed
+parsed-short s = lent-short Short (λ b. answer (readBank b)) s
+
+pub parsed-long : (s : List ℕ) (n : ℕ) → n ≡ 65536 → 65536 ≤ length s → answer (readBank (take n (drop 0 s))) ≡ parsed s
+unfolding parsed
+parsed-long s = lent-long Short (λ b. answer (readBank b)) s

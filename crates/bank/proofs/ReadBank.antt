@@ -2,11 +2,9 @@
 use Prim.Native.Nat.{ℕ, _+_, _-_, _≤_, _<_}
 use mathlib.Core.Path.{_≡_, refl, sym, ap, _∙_, subst}
 use mathlib.Core.List.{List}
-use mathlib.Core.Bool.{Bool, true, false, cond, _&&_}
+use mathlib.Core.Bool.{Bool, true, false, cond}
 use native.Mathlib.Omega.{arith}
-use lib.Dec.{leb, eqb}
-use lib.ListN.{length, getD, take, drop, length-take}
-use borrow.Author.Tests.{leb-true}
+use lib.ListN.{length, take, drop, length-take}
 use Rattle.crc32.specs.Crc32.{Bytes}
 use Rattle.buffers.specs.Bytes.{allFF}
 use Rattle.buffers.proofs.Laws.{clash, count-ff-le}
@@ -15,8 +13,7 @@ use Rattle.bank.specs.declared.header.Head.{Head}
 use Rattle.bank.specs.declared.header.Head.the-variants.{Signature, Version, Size, Good}
 use Rattle.bank.specs.declared.partition.Stop.{Stop}
 use Rattle.bank.specs.declared.partition.Stop.the-variants.{Blank, Start, Length, End, Name, Crc}
-use Rattle.bank.specs.Number.{u32At}
-use Rattle.bank.specs.Header.{headerOf, signed, readHeader}
+use Rattle.bank.specs.Header.{headerOf, readHeader}
 use Rattle.bank.specs.Record.{Record, sizes}
 use Rattle.bank.specs.Bank.{Bank, empty, invalid, valid, bankOf}
 use Rattle.bank.specs.Read.{walkFrom, usableAt, spoils, slotOf, erasedSlot, afterHead, readBank}
@@ -25,6 +22,7 @@ use Rattle.bank.specs.Totals.{total}
 use Rattle.bank.proofs.NumberLaws.{u32-lt}
 use Rattle.bank.proofs.WalkLaws.{walk-at}
 use Rattle.bank.proofs.ReadFine.{walk-fine}
+use Rattle.bank.proofs.HeaderLaws.{headed}
 
 -- the header and the walk that a bank came from
 pub record Came (s : List ℕ) (b : Bank) : Type 0 where
@@ -59,37 +57,20 @@ unfolding total
 came-total s b k = sym (walk-at s (b .header .size) 24 ∙ ap (λ (rs : List Record). 24 + sizes rs) (k .records))
 
 -- a header that was read is well-formed
-pub and-left : (a b : Bool) → (a && b) ≡ true → a ≡ true
-and-left true b e = refl
-and-left false b e = e
-
-pub and-right : (a b : Bool) → (a && b) ≡ true → b ≡ true
-and-right true b e = e
-and-right false b e = clash cc
-
 pub head-fine : (s : List ℕ) (h : StoreHeader) → Bytes s → readHeader s ≡ Good h → FineHeader h
-unfolding readHeader headerOf
-head-fine s h k e = go (signed s) (eqb (getD s 14 0) 1) (leb 24 (u32At s 4) && leb (u32At s 4) 65536) refl e
-  where
-    fine : (leb 24 (u32At s 4) && leb (u32At s 4) 65536) ≡ true → FineHeader (headerOf s)
-    fine q =
-        record {
-          size-low = leb-true _ _ (and-left (leb 24 (u32At s 4)) (leb (u32At s 4) 65536) q);
-          size-high = leb-true _ _ (and-right (leb 24 (u32At s 4)) (leb (u32At s 4) 65536) q);
-          generation-fits = u32-lt s 8 k;
-          state-fits = k 12;
-          flags-fit = k 13;
-          system-fits = u32-lt s 16 k;
-          common-fits = u32-lt s 20 k;
-        }
-
-    go : (a b c : Bool) → (leb 24 (u32At s 4) && leb (u32At s 4) 65536) ≡ c
-        → cond a (cond b (cond c (Good (headerOf s)) Size) Version) Signature ≡ Good h
-        → FineHeader h
-    go true true true q p = let z : headerOf s ≡ h = cc in subst FineHeader z (fine q)
-    go true true false q p = clash cc
-    go true false c q p = clash cc
-    go false b c q p = clash cc
+unfolding headerOf
+head-fine s h k e =
+    let q = headed s h e in
+    subst FineHeader (sym (q .is))
+    (record {
+      size-low = q .size-low;
+      size-high = q .size-high;
+      generation-fits = u32-lt s 8 k;
+      state-fits = k 12;
+      flags-fit = k 13;
+      system-fits = u32-lt s 16 k;
+      common-fits = u32-lt s 20 k;
+    })
 
 -- usable lies within the records' end and the size
 pub usable-within : (s : List ℕ) (size at : ℕ) (c : Stop) → ((c ≡ End → ⊥) → at + 36 < size) → 24 ≤ at → 24 ≤ size

@@ -15,7 +15,7 @@ use Rattle.bank.specs.Bank.{Bank, empty, invalid, valid}
 use Rattle.bank.specs.Read.{spoils, slotOf, erasedSlot, afterHead, walkFrom, readBank}
 use Rattle.bank.proofs.NumberLaws.{u32-sum}
 use Rattle.bank.proofs.ReadBank.{came}
-use Rattle.bank.proofs.WriteLaws.{headed}
+use Rattle.bank.proofs.HeaderLaws.{headed}
 use Rattle.bank.proofs.PaddedLaws.{blanks}
 
 -- Empty

@@ -6,7 +6,7 @@ use mathlib.Core.Bool.{_&&_, cond}
 use native.Mathlib.Omega.{arith}
 use lib.Dec.{leb}
 use lib.ListN.{length, take, replicate}
-use borrow.Author.Tests.{lt-leb, le-leb, leb-true, leb-false}
+use borrow.Author.Tests.{lt-leb, le-leb}
 use Rattle.buffers.proofs.Laws.{clash}
 use Rattle.bank.specs.declared.partition.Partition.{Partition}
 use Rattle.bank.specs.declared.partition.Slot.{Slot}
@@ -16,8 +16,7 @@ use Rattle.bank.specs.Bank.{Bank, bankSize, partOf}
 use Rattle.bank.specs.Read.{readBank}
 use Rattle.bank.specs.Totals.{total}
 use Rattle.bank.specs.Answer.{partitionOf, answer, parsed, serializedSlot, serializedPart}
-use Rattle.bank.proofs.WalkLaws.{by-test}
-use Rattle.bank.proofs.PartitionLaws.{bank-size}
+use Rattle.bank.proofs.PartitionLaws.{bank-size, lent-by}
 
 -- the answer, taken back
 valid-back : (k : bank.Slot) (p : Partition) → answer k ≡ Valid p → (b : Bank) × (k ≡ bank.valid b) × (partitionOf b ≡ p)
@@ -47,7 +46,7 @@ short-back (bank.valid b) e = clash cc
 -- what was parsed, by the bytes' number
 parsed-by : (s : List ℕ) (P : Slot → Type 0) → (bankSize ≤ length s → P (answer (readBank (take bankSize s)))) → (length s < bankSize → P Short) → P (parsed s)
 unfolding parsed
-parsed-by s P f g = by-test P (leb bankSize (length s)) _ _ (λ t. f (leb-true _ _ t)) (λ t. g (leb-false _ _ t))
+parsed-by s P f g = lent-by Short (λ b. answer (readBank b)) s P f g
 
 module _ (s out : List ℕ) where
   pub room-short : length out < 65536 → (Short ≡ serializedSlot s out) × (out ≡ serializedPart s out)

@@ -1,4 +1,5 @@
--- What stands at an offset, by the cases of `found`; the reading loop's equations, and induction over a walk (`walk-ind`).
+-- What stands at an offset, by the cases of `found`, and what each shows of the bytes (`stands`, `halts`); the reading loop's equations, and
+-- induction over a walk (`walk-ind`).
 use Prim.Native.Nat.{ℕ, zero, suc, _+_, _-_, _≤_, _<_}
 use mathlib.Core.Path.{_≡_, refl, sym, ap, _∙_, subst}
 use mathlib.Core.List.{List}
@@ -8,7 +9,7 @@ use native.Mathlib.Omega.{arith}
 use lib.Dec.{ltb, leb, eqb}
 use lib.ListN.{length, getD, take, drop, length-take, length-drop}
 use lib.Seq.{length-take-le, getD-take}
-use borrow.Author.Tests.{eq-eqb, ne-eqb, le-ltb, lt-ltb, le-leb, lt-leb, leb-true, ltb-true, ltb-false, eqb-true, eqb-false}
+use borrow.Author.Tests.{eq-eqb, ne-eqb, le-ltb, lt-ltb, le-leb, lt-leb, leb-true, leb-false, ltb-true, ltb-false, eqb-true, eqb-false}
 use Rattle.crc32.specs.Crc32.{crc32Of}
 use Rattle.buffers.specs.Bytes.{allBlank}
 use Rattle.buffers.proofs.Laws.{all-blank-head}
@@ -74,25 +75,37 @@ pub record Stands (s : List ℕ) (r : Record) : Type 0 where
   pub named : nameAt s ≡ 0 → ⊥
   pub summed : Summed s
 
+-- why reading stops at s: the first test that fails, in the loop's order
+abbrev pub Halts : List ℕ → Stop → Type 0
+Halts s Blank = allBlank (take 36 s) ≡ true
+Halts s Start = (allBlank (take 36 s) ≡ false) × (u16At s 0 ≡ 0x55AA → ⊥)
+Halts s Length = (u16At s 0 ≡ 0x55AA) × (length s < sizeAt s)
+Halts s Name = (u16At s 0 ≡ 0x55AA) × (sizeAt s ≤ length s) × (nameAt s ≡ 0)
+Halts s Crc = (u16At s 0 ≡ 0x55AA) × (sizeAt s ≤ length s) × (nameAt s ≡ 0 → ⊥) × (Summed s → ⊥)
+Halts s End = ⊥
+
 abbrev ItemStands : List ℕ → Item → Type 0
 ItemStands s (got r) = Stands s r
-ItemStands s (halt c) = Unit {0}
+ItemStands s (halt c) = Halts s c
 
 found-sound : (s : List ℕ) → ItemStands s (found s)
 unfolding found
 found-sound s =
-    by-test (ItemStands s) (allBlank (take 36 s)) _ _ (λ _. tt)
+    by-test (ItemStands s) (allBlank (take 36 s)) _ _ (λ a. a)
     (λ a. by-test (ItemStands s) (eqb (u16At s 0) 0x55AA) _ _
     (λ b. by-test (ItemStands s) (leb (sizeAt s) (length s)) _ _
-    (λ d. by-test (ItemStands s) (eqb (nameAt s) 0) _ _ (λ _. tt)
+    (λ d. by-test (ItemStands s) (eqb (nameAt s) 0) _ _ (λ e. (eqb-true _ _ b, leb-true _ _ d, eqb-true _ _ e))
     (λ e. by-test (ItemStands s) (eqb (u32At s 32) (crc32Of (take (valueAt s) (drop (36 + nameAt s) s)))) _ _
     (λ f. record { is = refl; starts = eqb-true _ _ b; ends = leb-true _ _ d; named = eqb-false _ _ e; summed = eqb-true _ _ f })
-    (λ _. tt)))
-    (λ _. tt))
-    (λ _. tt))
+    (λ f. (eqb-true _ _ b, leb-true _ _ d, eqb-false _ _ e, eqb-false _ _ f))))
+    (λ d. (eqb-true _ _ b, leb-false _ _ d)))
+    (λ b. (a, eqb-false _ _ b)))
 
 pub stands : (s : List ℕ) (r : Record) → found s ≡ got r → Stands s r
 stands s r e = subst (ItemStands s) e (found-sound s)
+
+pub halts : (s : List ℕ) (c : Stop) → found s ≡ halt c → Halts s c
+halts s c e = subst (ItemStands s) e (found-sound s)
 
 pub stands-found : (s : List ℕ) (r : Record) → Stands s r → found s ≡ got r
 stands-found s r k = found-got s (k .starts) (k .ends) (k .named) (k .summed) ∙ ap got (sym (k .is))

@@ -1,20 +1,16 @@
 -- A bank that was read, copied and normalized, is the bank as it would be written.
 use Prim.Native.Nat.{ℕ, _+_, _-_, _≤_}
-use mathlib.Core.Path.{_≡_, refl, sym, ap, ap₂, _∙_, subst}
+use mathlib.Core.Path.{_≡_, sym, ap, ap₂, _∙_, subst}
 use mathlib.Core.List.{List, [], _∷_, _++_, append-assoc, append-nil}
-use mathlib.Core.Bool.{Bool, true, false, _&&_, cond}
 use native.Mathlib.Omega.{arith}
-use lib.Dec.{leb, eqb}
 use lib.ListN.{length, getD, set, take, drop, replicate, drop-of-length-le, length-append, length-drop, length-set, take-append-drop}
 use lib.Seq.{take-at, drop-at, set-append-left, take-set-lt, length-take-le}
-use borrow.Author.Tests.{leb-true, eqb-true}
 use Rattle.crc32.specs.Crc32.{Bytes}
-use Rattle.buffers.specs.Bytes.{onto, eqBytes, over}
-use Rattle.buffers.proofs.Laws.{clash, eq-bytes, onto-fits, length-onto, past-drop}
+use Rattle.buffers.specs.Bytes.{onto, over}
+use Rattle.buffers.proofs.Laws.{onto-fits, length-onto, past-drop}
 use Rattle.bank.specs.declared.header.StoreHeader.{StoreHeader}
-use Rattle.bank.specs.declared.header.Head.the-variants.{Good, Size, Version, Signature}
 use Rattle.bank.specs.Number.{u32At, le32}
-use Rattle.bank.specs.Header.{signature, signed, headerBytes, headerOf, readHeader}
+use Rattle.bank.specs.Header.{signature, headerBytes, headerOf}
 use Rattle.bank.specs.Record.{Record, recordsBytes}
 use Rattle.bank.specs.Bank.{Bank, valid, padded, bankBytes, partOf}
 use Rattle.bank.specs.Read.{walkFrom, readBank}
@@ -23,28 +19,9 @@ use Rattle.bank.specs.Totals.{total}
 use Rattle.bank.proofs.Normal.{one-more, u32-split}
 use Rattle.bank.proofs.NormalizeLaws.{raw-length}
 use Rattle.bank.proofs.LengthLaws.{length-header}
+use Rattle.bank.proofs.HeaderLaws.{Headed, headed}
 use Rattle.bank.proofs.ReadFine.{take-add, walk-fine}
 use Rattle.bank.proofs.ReadBank.{came, came-total}
-
--- what a header that was read shows of the bytes
-pub record Headed (s : List ℕ) (h : StoreHeader) : Type 0 where
-  pub is : h ≡ headerOf s
-  pub long : 24 ≤ length s
-  pub signs : take 4 s ≡ signature
-  pub version : getD s 14 0 ≡ 1
-
-pub headed : (s : List ℕ) (h : StoreHeader) → readHeader s ≡ Good h → Headed s h
-unfolding readHeader signed
-headed s h e = go (leb 24 (length s)) (eqBytes (take 4 s) signature) (eqb (getD s 14 0) 1) (leb 24 (u32At s 4) && leb (u32At s 4) 65536) refl refl refl e
-  where
-    go : (a b c d : Bool) → leb 24 (length s) ≡ a → eqBytes (take 4 s) signature ≡ b → eqb (getD s 14 0) 1 ≡ c
-        → cond (a && b) (cond c (cond d (Good (headerOf s)) Size) Version) Signature ≡ Good h
-        → Headed s h
-    go true true true true p q r t = record { is = cc; long = leb-true _ _ p; signs = eq-bytes (take 4 s) signature q; version = eqb-true _ _ r }
-    go true true true false p q r t = clash cc
-    go true true false d p q r t = clash cc
-    go true false c d p q r t = clash cc
-    go false b c d p q r t = clash cc
 
 module _ (s : List ℕ) (h : StoreHeader) (k : Bytes s) (e : Headed s h) where
   -- the bytes before the reserved one, and those after it

@@ -1,5 +1,5 @@
 -- What the code answers where the definitions have a slot, an item of the walk or a record's header; and a part as `serialize` leaves it.
-use Prim.Native.Nat.{ℕ}
+use Prim.Native.Nat.{ℕ, _+_}
 use mathlib.Core.List.{List}
 use mathlib.Core.Bool.{_&&_, cond}
 use lib.ListN.{length, getD, take, drop, replicate}
@@ -13,7 +13,7 @@ use Rattle.bank.specs.declared.variable.Step.the-variants.{Next, Halt}
 use Rattle.bank.specs.declared.variable.VarType.{VarType}
 use Rattle.bank.specs.declared.variable.VarHeader.{VarHeader}
 use Rattle.bank.specs.Bank as bank
-use Rattle.bank.specs.Bank.{Bank, bankSize, partOf}
+use Rattle.bank.specs.Bank.{Bank, bankSize, ofLent, partOf}
 use Rattle.bank.specs.Number.{u32At}
 use Rattle.bank.specs.Record.{sizeOf, guidOf, nameAt, valueAt}
 use Rattle.bank.specs.Read.{Item, got, halt, Walk, readBank}
@@ -27,18 +27,17 @@ answer bank.empty = Empty
 answer bank.invalid = Invalid
 answer (bank.valid b) = Valid (partitionOf b)
 
--- of any bytes lent: the first 65,536 are the bank
 unfoldable pub parsed : List ℕ → Slot
-parsed s = cond (leb bankSize (length s)) (answer (readBank (take bankSize s))) Short
+parsed s = ofLent Short (λ b. answer (readBank b)) s
 
 -- of what stands at an offset: the record's size, or why reading stops there
 unfoldable pub stepOf : Item → Step
 stepOf (got r) = Next (sizeOf r)
 stepOf (halt c) = Halt c
 
--- where reading stopped, and why
-unfoldable pub walked : Walk → Walked
-walked w = record { at = w .at; stop = w .stop }
+-- where reading stopped, why, and how many records it had read, n of them before this walk
+unfoldable pub walked : ℕ → Walk → Walked
+walked n w = record { at = w .at; stop = w .stop; count = n + length (w .records) }
 
 abbrev pub varHeader : ℕ → ℕ → ℕ → ℕ → List ℕ → ℕ → VarHeader
 varHeader state attributes name value guid crc =

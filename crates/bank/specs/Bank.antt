@@ -1,7 +1,9 @@
 -- A bank and a slot: what they hold, and a bank's bytes as they would be written.
 use Prim.Native.Nat.{ℕ, _-_}
 use mathlib.Core.List.{List, _++_}
-use lib.ListN.{length, replicate}
+use mathlib.Core.Bool.{cond}
+use lib.Dec.{leb}
+use lib.ListN.{length, take, replicate}
 use Rattle.bank.specs.declared.header.StoreHeader.{StoreHeader}
 use Rattle.bank.specs.Header.{headerBytes}
 use Rattle.bank.specs.Record.{Record, recordsBytes}
@@ -23,6 +25,10 @@ pub data Slot : Type 0 where
 -- a bank's flash bytes; shut, since an open numeral of this size unrolls in every goal
 unfoldable pub bankSize : ℕ
 bankSize = 65536
+
+-- of any bytes lent: the first 65,536 are the bank, and fewer are short of one
+abbrev pub ofLent : {A : Type 0} → A → (List ℕ → A) → List ℕ → A
+ofLent short of s = cond (leb bankSize (length s)) (of (take bankSize s)) short
 
 -- s, and 0xFF after it up to n bytes
 unfoldable pub padded : ℕ → List ℕ → List ℕ

@@ -10,6 +10,8 @@ pub use number::le32;
 pub use partition::Partition;
 pub use partition::Slot;
 pub use partition::Stop;
+pub use partition::Walked;
+pub use partition::read_records;
 pub use variable::VarHeader;
 pub use variable::VarType;
 pub use variable::Variable;

@@ -8,7 +8,6 @@ ghost use mathlib.Core.Path.{_≡_};
 ghost use Prim.Native.Nat.{_+_, _-_, _≤_, _<_};
 ghost use mathlib.Core.List.{List};
 ghost use lib.ListN.{length, take, drop, set};
-ghost use Rattle.crc32.specs.Table.{IsTables};
 ghost use Rattle.buffers.specs.Bytes.{over};
 ghost use Rattle.bank.specs.Header.{readHeader};
 ghost use Rattle.bank.specs.Record.{Record, nameAt, sizeAt, recordsBytes};
@@ -44,30 +43,36 @@ pub enum Slot {
     Valid(Partition),
 }
 
-// The offset at which reading stopped, and why.
+// The offset at which reading stopped, why, and how many records it had read.
 pub struct Walked {
     pub at: usize,
     pub stop: Stop,
+    pub count: usize,
 }
 
-fn read_records(t: &[u32; 4096], nvr: &[u8], size: usize) -> Walked
-    requires { ⌜ (length (now nvr) ≡ 65536) × (size ≤ 65536) × IsTables 16 (now t) ⌝ }
-    ensures { λ r. ⌜ r ≡ walked (walkFrom (now (nvr .entry)) size 24) ⌝ }
+// The records behind the header, one after the other, of a bank of this size.
+pub fn read_records(nvr: &[u8], size: usize) -> Walked
+    requires { ⌜ (length (now nvr) ≡ 65536) × (size ≤ 65536) ⌝ }
+    ensures { λ r. ⌜ r ≡ walked 0 (walkFrom (now (nvr .entry)) size 24) ⌝ }
 {
+    let t = crc32::tables();
     let mut at = Variable::STORE_HEADER_SIZE;
+    let mut count: usize = 0;
     while at + Variable::HEADER_SIZE < size {
-        match Variable::parse(t, &nvr[at..]) {
+        match Variable::parse(&t, &nvr[at..]) {
             Step::Next(n) => {
                 at += n;
+                count += 1;
             }
             Step::Halt(stop) => {
-                return Walked { at, stop };
+                return Walked { at, stop, count };
             }
         }
     }
     Walked {
         at,
         stop: Stop::End,
+        count,
     }
 }
 
@@ -107,9 +112,8 @@ fn read_partition(nvr: &[u8], header: StoreHeader) -> Slot
     requires { ⌜ (length (now nvr) ≡ 65536) × (readHeader (now nvr) ≡ Head.Good header) ⌝ }
     ensures { λ r. ⌜ r ≡ answer (readBank (now (nvr .entry))) ⌝ }
 {
-    let t = crc32::tables();
     let size = header.size as usize;
-    let walked = read_records(&t, nvr, size);
+    let walked = read_records(nvr, size);
     let at = walked.at;
     let stop = walked.stop;
     if faulty(stop) {

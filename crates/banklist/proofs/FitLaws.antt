@@ -1,14 +1,11 @@
 -- How long a listing can be: a record of n bytes makes a line of at most 2 × n (`record-short`), so that any listing fits the bytes lent
 -- (`listing-fits`).
-use Prim.Native.Nat.{ℕ, zero, suc, _+_, _*_, _/_, _%_, _^_, _≤_, _<_}
+use Prim.Native.Nat.{ℕ, _+_, _*_, _≤_, _<_}
 use mathlib.Core.Path.{_≡_, refl}
-use mathlib.Core.List.{List, [], _∷_, _++_}
-use native.Mathlib.Nat.{pow-succ'}
+use mathlib.Core.List.{List, [], _∷_}
 use native.Mathlib.Omega.{arith}
-use lib.Dec.{leb, ltb}
 use lib.ListN.{length, take, length-append}
 use lib.Seq.{length-take-le}
-use borrow.Author.Tests.{lt-ltb, leb-true}
 use Rattle.crc32.specs.Crc32.{Bytes}
 use Rattle.crc32.proofs.ByteLaws.{bytes-take}
 use Rattle.bank.specs.declared.header.StoreHeader.{StoreHeader}
@@ -19,24 +16,12 @@ use Rattle.bank.specs.Bank.{Bank, Slot, empty, invalid, valid, bankSize}
 use Rattle.bank.specs.Read.{readBank}
 use Rattle.bank.specs.Totals.{total}
 use Rattle.bank.specs.WellFormed.{FineHeader, FineBank}
-use Rattle.bank.proofs.WalkLaws.{by-test}
+use Rattle.bank.proofs.PartitionLaws.{lent-by}
 use Rattle.bank.proofs.ReadBank.{read-fine}
-use Rattle.text.specs.Text.{digit, hex, be32, decimalBy, decimal, field, line}
-use Rattle.text.proofs.TextLaws.{length-hex}
-use Rattle.banklist.specs.Listing.{shortWord, emptyWord, invalidWord, typeWord, keyWord, bankLine, fieldsLine, recordLine, recordLines, usedLine, bankLines, slotLines, listing, outSize}
-
-digits-short : (k most n : ℕ) → n < 10 ^ suc k → length (decimalBy most n) ≤ suc k
-unfolding decimalBy
-digits-short k zero n h = omega arith
-digits-short zero (suc m) n h = simp (lt-ltb n 10 h) (omega arith)
-digits-short (suc k) (suc m) n h =
-    by-test (λ x. length x ≤ suc (suc k)) (ltb n 10) (digit n ∷ []) (decimalBy m (n / 10) ++ (digit (n % 10) ∷ [])) (λ _. omega arith)
-    (λ _. let b : n < 10 * 10 ^ suc k = rw pow-succ' at h in
-    omega (arith, digits-short k m (n / 10) (omega arith), length-append (decimalBy m (n / 10)) (digit (n % 10) ∷ [])))
-
-decimal-short : (n : ℕ) → n < 10000000000 → length (decimal n) ≤ 10
-unfolding decimal
-decimal-short n h = digits-short 9 n n h
+use Rattle.text.specs.Text.{hex, be32, line}
+use Rattle.text.specs.Words.{shortWord, emptyWord}
+use Rattle.text.proofs.TextLaws.{length-hex, decimal-short, length-fields, length-last}
+use Rattle.banklist.specs.Listing.{invalidWord, typeWord, keyWord, bankLine, fieldsLine, recordLine, recordLines, usedLine, bankLines, slotLines, listing, outSize}
 
 type-short : (t : VarType) → length (typeWord t) ≡ 1
 unfolding typeWord
@@ -48,21 +33,13 @@ unfolding keyWord
 key-short [] = omega arith
 key-short (b ∷ k) = omega (arith, length-hex (b ∷ k))
 
-length-fields : (f g : List ℕ) (fs : List (List ℕ)) → length (line (f ∷ g ∷ fs)) ≡ length f + 1 + length (line (g ∷ fs))
-unfolding line field
-length-fields f g fs = simp length-append
-
-length-last : (f : List ℕ) → length (line (f ∷ [])) ≡ length f + 1
-unfolding line field
-length-last f = simp length-append
-
 record-short : (i : ℕ) (r : Record) → i + sizeOf r < 10000000000 → length (recordLine i r) ≤ 2 * sizeOf r
 unfolding recordLine fieldsLine sizeOf hex be32
 record-short i r h =
-    let index = decimal-short i (omega arith) in
+    let index = decimal-short 9 i (omega arith) in
     let typ = type-short (typeOf (r .guid)) in
     let key = key-short (r .key) in
-    let value = decimal-short (length (r .value)) (omega arith) in
+    let value = decimal-short 9 (length (r .value)) (omega arith) in
     simp (length-fields, length-last) (omega arith)
 
 records-short : (i : ℕ) (rs : List Record) → i + sizes rs < 10000000000 → length (recordLines i rs) ≤ 2 * sizes rs
@@ -75,15 +52,15 @@ records-short i (r ∷ rs) h =
 bank-short : (h : StoreHeader) → FineHeader h → length (bankLine h) ≤ 49
 unfolding bankLine
 bank-short h f =
-    let size = decimal-short (h .size) (omega arith) in
-    let generation = decimal-short (h .generation) (omega arith) in
-    let system = decimal-short (h .«system_size») (omega arith) in
-    let common = decimal-short (h .«common_size») (omega arith) in
+    let size = decimal-short 9 (h .size) (omega arith) in
+    let generation = decimal-short 9 (h .generation) (omega arith) in
+    let system = decimal-short 9 (h .«system_size») (omega arith) in
+    let common = decimal-short 9 (h .«common_size») (omega arith) in
     simp (length-fields, length-last) (omega arith)
 
 used-short : (m n : ℕ) → m < 10000000000 → n < 10000000000 → length (usedLine m n) ≤ 34
 unfolding usedLine
-used-short m n p q = simp (length-fields, length-last) (omega (arith, decimal-short m p, decimal-short n q))
+used-short m n p q = simp (length-fields, length-last) (omega (arith, decimal-short 9 m p, decimal-short 9 n q))
 
 lines-short : (b : Bank) → FineBank b → total b ≤ 65536 → length (bankLines b) ≤ outSize
 unfolding bankLines total outSize
@@ -105,6 +82,6 @@ slot-short s d l (valid b) e = let f = read-fine s b d (omega arith) e in lines-
 pub listing-fits : (s : List ℕ) → Bytes s → length (listing s) ≤ outSize
 unfolding listing bankSize outSize
 listing-fits s d =
-    by-test (λ x. length x ≤ outSize) (leb bankSize (length s)) (slotLines (readBank (take bankSize s))) (line (shortWord ∷ []))
-    (λ t. slot-short (take bankSize s) (bytes-take bankSize s d) (length-take-le bankSize s (leb-true _ _ t)) (readBank (take bankSize s)) refl)
+    lent-by (line (shortWord ∷ [])) (λ b. slotLines (readBank b)) s (λ x. length x ≤ outSize)
+    (λ t. slot-short (take bankSize s) (bytes-take bankSize s d) (length-take-le bankSize s t) (readBank (take bankSize s)) refl)
     (λ _. omega (arith, length-last shortWord))

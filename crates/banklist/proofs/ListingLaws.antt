@@ -1,14 +1,11 @@
--- The listing by what a bank's reader answers, and as it is left in the bytes lent.
-use Prim.Native.Nat.{ℕ, _≤_, _<_}
+-- The listing by what a bank's reader answers.
+use Prim.Native.Nat.{ℕ, _≤_}
 use mathlib.Core.Path.{_≡_, refl}
 use mathlib.Core.List.{List, [], _∷_}
 use mathlib.Core.Bool.{Bool, true, false, cond}
-use native.Mathlib.Omega.{arith}
 use lib.Dec.{leb}
 use lib.ListN.{length, take}
-use borrow.Author.Tests.{le-leb, lt-leb, leb-true}
-use Rattle.io.specs.Counts.{Counts}
-use Rattle.io.proofs.Counting.{counts}
+use borrow.Author.Tests.{leb-true}
 use Rattle.bank.specs.declared.partition.Slot.{Slot}
 use Rattle.bank.specs.declared.partition.Slot.the-variants.{Short, Empty, Invalid, Valid}
 use Rattle.bank.specs.declared.partition.Partition.{Partition}
@@ -16,9 +13,8 @@ use Rattle.bank.specs.Bank.{Slot as BankSlot, Bank, empty, invalid, valid, bank
 use Rattle.bank.specs.Read.{readBank}
 use Rattle.bank.specs.Answer.{partitionOf, answer, parsed}
 use Rattle.text.specs.Text.{line}
-use Rattle.text.specs.Put.{Put}
-use Rattle.text.proofs.PutLaws.{length-put}
-use Rattle.banklist.specs.Listing.{shortWord, emptyWord, invalidWord, bankLines, slotLines, listing, outSize, listedLength, listedOut}
+use Rattle.text.specs.Words.{shortWord, emptyWord}
+use Rattle.banklist.specs.Listing.{invalidWord, bankLines, slotLines, listing}
 
 -- the bank that a Valid answer stands for
 pub record Stood (s : List ℕ) (p : Partition) : Type 0 where
@@ -43,17 +39,3 @@ said s o e = rw e (go (leb bankSize (length s)) refl (readBank (take bankSize s)
     go true t invalid k = rw (t, k)
     go true t (valid b) k = record { bank = b; long = leb-true _ _ t; read = k; is = refl; lists = rw (t, k) }
     go false t b k = rw t
-
-module _ (s out : List ℕ) where
-  pub left-alone : length out < outSize → Counts 0 out × ((0 ≡ listedLength s out) × (out ≡ listedOut s out))
-  unfolding listedLength listedOut
-  left-alone h = (counts 0 out (omega arith), (simp (lt-leb outSize (length out) h), simp (lt-leb outSize (length out) h)))
-
-  module _ (h : outSize ≤ length out) where
-    pub left-listed : (n : ℕ) (x out₁ : List ℕ) → listing s ≡ x → Put 0 n x out out₁
-        → Counts n out₁ × ((n ≡ listedLength s out) × (out₁ ≡ listedOut s out))
-    unfolding listedLength listedOut
-    left-listed n x out₁ e a =
-        let l = length-put a in
-        let m : n ≡ length x = omega (arith, a .ends) in
-        (counts n out₁ (omega (arith, a .room)), (simp (le-leb outSize (length out) h, e) m, simp (le-leb outSize (length out) h, e) (a .left)))

@@ -1,19 +1,17 @@
 -- What `banklist` prints (01, 'Bench cases').
 use Prim.Native.Nat.{ℕ, _+_, _*_}
 use mathlib.Core.List.{List, [], _∷_, _++_}
-use mathlib.Core.Bool.{cond}
-use lib.ListN.{length, take}
-use lib.Dec.{leb}
+use lib.ListN.{length}
 use Rattle.crc32.specs.Crc32.{crc32Of}
-use Rattle.buffers.specs.Bytes.{over}
 use Rattle.bank.specs.declared.header.StoreHeader.{StoreHeader}
 use Rattle.bank.specs.declared.variable.VarType.{VarType}
 use Rattle.bank.specs.declared.variable.VarType.the-variants.{Common, System}
 use Rattle.bank.specs.Record.{Record, typeOf}
-use Rattle.bank.specs.Bank.{Bank, Slot, empty, invalid, valid, bankSize}
+use Rattle.bank.specs.Bank.{Bank, Slot, empty, invalid, valid, ofLent}
 use Rattle.bank.specs.Read.{readBank}
 use Rattle.bank.specs.Totals.{total}
 use Rattle.text.specs.Text.{hex, be32, decimal, line}
+use Rattle.text.specs.Words.{shortWord, emptyWord}
 
 abbrev pub bankWord : List ℕ
 bankWord = 0x62 ∷ 0x61 ∷ 0x6E ∷ 0x6B ∷ []
@@ -23,12 +21,6 @@ usedWord = 0x75 ∷ 0x73 ∷ 0x65 ∷ 0x64 ∷ []
 
 abbrev pub usableWord : List ℕ
 usableWord = 0x75 ∷ 0x73 ∷ 0x61 ∷ 0x62 ∷ 0x6C ∷ 0x65 ∷ []
-
-abbrev pub shortWord : List ℕ
-shortWord = 0x73 ∷ 0x68 ∷ 0x6F ∷ 0x72 ∷ 0x74 ∷ []
-
-abbrev pub emptyWord : List ℕ
-emptyWord = 0x65 ∷ 0x6D ∷ 0x70 ∷ 0x74 ∷ 0x79 ∷ []
 
 abbrev pub invalidWord : List ℕ
 invalidWord = 0x69 ∷ 0x6E ∷ 0x76 ∷ 0x61 ∷ 0x6C ∷ 0x69 ∷ 0x64 ∷ []
@@ -72,16 +64,9 @@ slotLines empty = line (emptyWord ∷ [])
 slotLines invalid = line (invalidWord ∷ [])
 slotLines (valid b) = bankLines b
 
--- of any input: the first 65,536 bytes are the bank
 unfoldable pub listing : List ℕ → List ℕ
-listing s = cond (leb bankSize (length s)) (slotLines (readBank (take bankSize s))) (line (shortWord ∷ []))
+listing s = ofLent (line (shortWord ∷ [])) (λ b. slotLines (readBank b)) s
 
--- bytes lent that are enough for any listing; fewer stay as they are
+-- bytes enough for any listing
 unfoldable pub outSize : ℕ
 outSize = 3 * 65536
-
-unfoldable pub listedLength : List ℕ → List ℕ → ℕ
-listedLength s out = cond (leb outSize (length out)) (length (listing s)) 0
-
-unfoldable pub listedOut : List ℕ → List ℕ → List ℕ
-listedOut s out = cond (leb outSize (length out)) (over 0 (listing s) out) out

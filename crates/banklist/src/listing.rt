@@ -13,8 +13,8 @@ ghost use Rattle.bank.specs.Bank.{Bank, valid, bankSize};
 ghost use Rattle.bank.specs.Read.{readBank};
 ghost use Rattle.bank.specs.Totals.{total as totalOf};
 ghost use Rattle.bank.specs.Answer.{partitionOf};
-ghost use Rattle.text.specs.Put.{Room, Put};
-ghost use Rattle.banklist.specs.Listing.{recordLines, bankLines, listedLength, listedOut};
+ghost use Rattle.text.specs.Put.{Room, Put, printedLength, printedOut};
+ghost use Rattle.banklist.specs.Listing.{recordLines, bankLines, listing as listingOf, outSize};
 ghost use lib.ListN.{length};
 
 // Bytes enough for any listing: a record of n bytes makes a line of at most 2 * n.
@@ -53,7 +53,7 @@ fn bank_lines(out: &mut [u8], nvr: &[u8], p: Partition) -> usize
 // The listing of what nvr begins with, at the front of out, and its length; 0, and out as it was, where out has fewer than OUT bytes.
 pub(crate) fn listing(nvr: &[u8], out: &mut [u8]) -> usize
     ensures { λ r. ⌜ Counts r (now (out .exit)) ⌝ }
-    ensures { λ r. ⌜ (r ≡ listedLength (now (nvr .entry)) (now (out .entry))) × (now (out .exit) ≡ listedOut (now (nvr .entry)) (now (out .entry))) ⌝ }
+    ensures { λ r. ⌜ (r ≡ printedLength outSize (listingOf (now (nvr .entry))) (now (out .entry))) × (now (out .exit) ≡ printedOut outSize (listingOf (now (nvr .entry))) (now (out .entry))) ⌝ }
 {
     if out.len() < OUT {
         return 0;

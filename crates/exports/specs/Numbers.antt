@@ -1,4 +1,4 @@
--- A slot and a comparison as the numbers that cross to C.
+-- A slot, a comparison and a cause as the numbers that cross to C.
 use Prim.Native.Nat.{ℕ}
 use mathlib.Core.List.{List, [], _∷_}
 use mathlib.Core.Bool.{cond}
@@ -6,6 +6,9 @@ use lib.ListN.{replicate}
 use Rattle.bank.specs.declared.partition.Slot.{Slot}
 use Rattle.bank.specs.declared.partition.Slot.the-variants.{Short, Empty, Invalid, Valid}
 use Rattle.settings.specs.declared.Compared.{Compared}
+use Rattle.cause.specs.declared.Cause.{Cause}
+use Rattle.cause.specs.declared.Cause.the-variants as cause
+use Rattle.cause.specs.Cause.{spotOf}
 
 abbrev pub slotNumber : Slot → ℕ
 slotNumber Short = 0
@@ -27,3 +30,20 @@ slotFields (Valid p) =
 -- 1 for yes, 0 for no
 abbrev pub sameField : Compared → List ℕ
 sameField c = cond (c .same) 1 0 ∷ []
+
+abbrev pub causeNumber : Cause → ℕ
+causeNumber cause.Short = 0
+causeNumber cause.Empty = 1
+causeNumber cause.Signature = 2
+causeNumber cause.Version = 3
+causeNumber cause.Size = 4
+causeNumber (cause.Name p) = 5
+causeNumber (cause.Crc p) = 6
+causeNumber cause.Blank = 7
+causeNumber cause.Start = 8
+causeNumber cause.Length = 9
+causeNumber cause.End = 10
+
+-- the place in the bank, the record's index; zeros where none is named
+abbrev pub causeFields : Cause → List ℕ
+causeFields c = spotOf c .place ∷ spotOf c .index ∷ []

@@ -1,4 +1,5 @@
 // Entry points for C and Rust. A slice crosses as a pointer and a length, an array as a pointer.
+mod causes;
 mod checksum;
 mod partition;
 mod same;

@@ -25,7 +25,8 @@ use Rattle.bank.proofs.PaddedLaws.{part-bytes}
 use Rattle.bank.proofs.LengthLaws.{length-header, length-records, length-bank, FitsPart, length-part}
 use Rattle.bank.proofs.HeaderLaws.{header-back}
 use Rattle.bank.proofs.ReadBank.{head-fine}
-use Rattle.bank.proofs.WriteLaws.{headed, header-normal}
+use Rattle.bank.proofs.HeaderLaws.{headed}
+use Rattle.bank.proofs.WriteLaws.{header-normal}
 use Rattle.records.specs.View.{viewRecords}
 use Rattle.records.proofs.RecordLaws.{view-records, records-back}
 use Rattle.book.specs.Book.{partSize, FineSlot}

@@ -1,14 +1,18 @@
--- Text put over bytes, one run behind another (`join`); room for all is room for each (`front`, `back`), and for a line field by field (`Rooms`).
+-- Text put over bytes, one run behind another (`join`); room for all is room for each (`front`, `back`), and for a line field by field
+-- (`Rooms`). A whole text at the front of the bytes lent (`left-alone`, `left-printed`).
 use Prim.Native.Nat.{ℕ, _+_, _-_, _≤_, _<_}
 use mathlib.Core.Path.{_≡_, refl, sym, ap, _∙_}
 use mathlib.Core.List.{List, [], _∷_, _++_}
 use native.Mathlib.Omega.{arith}
 use lib.ListN.{length, take, drop, set, length-append}
+use borrow.Author.Tests.{le-leb, lt-leb}
 use borrow.Rule.Slice.PartMut.{putMid}
+use Rattle.io.specs.Counts.{Counts}
+use Rattle.io.proofs.Counting.{counts}
 use Rattle.buffers.specs.Bytes.{onto, over}
 use Rattle.buffers.proofs.OverLaws.{length-over, over-none, over-over, over-set, over-copy}
 use Rattle.text.specs.Text.{field, line}
-use Rattle.text.specs.Put.{Room, Put}
+use Rattle.text.specs.Put.{Room, Put, printedLength, printedOut}
 
 pub length-put : {at p : ℕ} {x w u : List ℕ} → Put at p x w u → length u ≡ length w
 length-put {at} {p} {x} {w} {u} a = ap length (a .left) ∙ length-over at x w (omega arith)
@@ -69,3 +73,16 @@ next {g = g} {fs = fs} a r = record { all = back (line (g ∷ fs)) a (r .all) }
 pub last : {at : ℕ} {f w : List ℕ} → Rooms at (f ∷ []) w → Room at (field f 0x0A) w
 unfolding line
 last r = r .all
+
+-- a text x at the front of w, where n bytes are enough for it
+module _ (n : ℕ) (x w : List ℕ) where
+  pub left-alone : length w < n → Counts 0 w × ((0 ≡ printedLength n x w) × (w ≡ printedOut n x w))
+  unfolding printedLength printedOut
+  left-alone h = (counts 0 w (omega arith), (simp (lt-leb n (length w) h), simp (lt-leb n (length w) h)))
+
+  pub left-printed : {m : ℕ} {y u : List ℕ} → n ≤ length w → x ≡ y → Put 0 m y w u → Counts m u × ((m ≡ printedLength n x w) × (u ≡ printedOut n x w))
+  unfolding printedLength printedOut
+  left-printed {m} {y} {u} h e a =
+      let l = length-put a in
+      let k : m ≡ length y = omega (arith, a .ends) in
+      (counts m u (omega (arith, a .room)), (simp (le-leb n (length w) h, e) k, simp (le-leb n (length w) h, e) (a .left)))

@@ -1,17 +1,18 @@
 -- Digits: of bytes in hexadecimal, as a loop puts them (`hex-put`, `hex-room`), and of a number in decimal: what `io::decimal` leaves is `decimal`
--- (`decimal-digits`).
+-- (`decimal-digits`). Their lengths (`decimal-short`), and those of a line.
 use Prim.Native.Nat.{ℕ, zero, suc, _+_, _-_, _*_, _/_, _%_, _^_, _≤_, _<_}
 use mathlib.Core.Path.{_≡_, refl, ap, _∙_}
 use mathlib.Core.List.{List, [], _∷_, _++_}
+use mathlib.Core.Bool.{Bool, true, false, cond}
 use native.Mathlib.Nat.{pow-succ', one-le-pow}
 use native.Mathlib.Omega.{arith}
 use native.Mathlib.Numerals.{add-one}
-use lib.Dec.{lit≤}
+use lib.Dec.{lit≤, ltb}
 use lib.ListN.{length, getD, take, length-append}
 use lib.Seq.{take-suc, length-take-le}
 use borrow.Author.Tests.{lt-ltb, le-ltb}
 use Rattle.io.specs.Digits.{digits, Fewest, glyph}
-use Rattle.text.specs.Text.{digit, hex, decimalBy, decimal, field}
+use Rattle.text.specs.Text.{digit, hex, decimalBy, decimal, field, line}
 use Rattle.text.specs.Put.{Room, Put}
 use Rattle.text.proofs.PutLaws.{length-put, join}
 
@@ -86,3 +87,29 @@ module _ {at p : ℕ} {w u : List ℕ} (s : List ℕ) (i : ℕ) (a : Put at p (h
       → Put q r (e ∷ []) v x
       → Put at r (hex (take (i + 1) s)) w x
   hex-put h dd ee b c = rw (hex-more s i h, ← dd, ← ee) (join a (join b c))
+
+-- lengths: of a number below a power of ten, and of a line
+digits-short : (k most n : ℕ) → n < 10 ^ suc k → length (decimalBy most n) ≤ suc k
+unfolding decimalBy
+digits-short k zero n h = omega arith
+digits-short zero (suc m) n h = simp (lt-ltb n 10 h) (omega arith)
+digits-short (suc k) (suc m) n h =
+    let b : n < 10 * 10 ^ suc k = rw pow-succ' at h in
+    either (ltb n 10) (omega (arith, digits-short k m (n / 10) (omega arith), length-append (decimalBy m (n / 10)) (digit (n % 10) ∷ [])))
+  where
+    either : (t : Bool) → length (decimalBy m (n / 10) ++ (digit (n % 10) ∷ [])) ≤ suc (suc k)
+        → length (cond t (digit n ∷ []) (decimalBy m (n / 10) ++ (digit (n % 10) ∷ []))) ≤ suc (suc k)
+    either true h = omega arith
+    either false h = h
+
+pub decimal-short : (k n : ℕ) → n < 10 ^ suc k → length (decimal n) ≤ suc k
+unfolding decimal
+decimal-short k n h = digits-short k n n h
+
+pub length-fields : (f g : List ℕ) (fs : List (List ℕ)) → length (line (f ∷ g ∷ fs)) ≡ length f + 1 + length (line (g ∷ fs))
+unfolding line field
+length-fields f g fs = simp length-append
+
+pub length-last : (f : List ℕ) → length (line (f ∷ [])) ≡ length f + 1
+unfolding line field
+length-last f = simp length-append

@@ -1,4 +1,5 @@
--- `read_records`: the walk from 24 stops where and why that from `at` does; `turn-next` passes a record, `turn-halt` and `turn-end` are the exits.
+-- `read_records`: the walk from 24 stops where and why that from `at` does, which has `count` records before it; `turn-next` passes a record,
+-- `turn-halt` and `turn-end` are the exits.
 use native.Mathlib.Omega.{arith}
 use borrow.Author.Needs.{needs}
 use mathlib.Core.Path.{_≡_, refl, sym, _∙_}
@@ -11,13 +12,16 @@ use Rattle.bank.proofs.partition.read_records.Statement.{statement}
 use Rattle.bank.proofs.partition.read_records.Tie as tie
 
 abbrev Inv-loop : tie.InvT-loop
-Inv-loop t nvr size at₀ at = (at ≤ 65536) × (walked (walkFrom nvr size 24) ≡ walked (walkFrom nvr size at))
+Inv-loop nvr size t at₀ count₀ at count = (at ≤ 65536) × (count ≤ at) × (walked 0 (walkFrom nvr size 24) ≡ walked count (walkFrom nvr size at))
 
 abbrev μ-loop : tie.MeasureT-loop
-μ-loop t nvr size at₀ at = 65536 - at
+μ-loop nvr size t at₀ count₀ at count = 65536 - at
+
+tables-requires : tie.Need-tables-requires Inv-loop μ-loop
+tables-requires c κs = search needs
 
 loop-holds : tie.Need-loop-holds Inv-loop μ-loop
-loop-holds c = (omega arith, refl)
+loop-holds c = (omega arith, omega arith, refl)
 
 add-loop : tie.Need-add-loop Inv-loop μ-loop
 add-loop c = search needs
@@ -38,29 +42,32 @@ enum-known-n : tie.Need-enum-known-n Inv-loop μ-loop
 enum-known-n c = search needs
 
 add-at : tie.Need-add-at Inv-loop μ-loop
-add-at c = let a = c .before .before .before .before .before .before .before .before .args in let now = c .before .before .before .before .before .before .loop in
+add-at c = let a = c .before .before .before .before .before .before .before .before .before .before .args in let now = c .before .before .before .before .before .before .before .loop in
     let t = turn-next (a .nvr .now) (a .size) (now .at) (c .before .before .before .parse .result) (omega arith) (c .before .before .before .parse .ensures) _ (c .before .n .given .1) in
     omega (arith, t .within)
 
+add-count : tie.Need-add-count Inv-loop μ-loop
+add-count c = search needs
+
 loop-less : tie.Need-loop-less Inv-loop μ-loop
-loop-less c = let a = c .before .before .before .before .before .before .before .before .args in let now = c .before .before .before .before .before .before .loop in
+loop-less c = let a = c .before .before .before .before .before .before .before .before .before .before .args in let now = c .before .before .before .before .before .before .before .loop in
     let t = turn-next (a .nvr .now) (a .size) (now .at) (c .before .before .before .parse .result) (omega arith) (c .before .before .before .parse .ensures) _ (c .before .n .given .1) in
     omega (arith, t .within, t .more)
 
 loop-again : tie.Need-loop-again Inv-loop μ-loop
-loop-again c = let a = c .before .before .before .before .before .before .before .before .args in let now = c .before .before .before .before .before .before .loop in
+loop-again c = let a = c .before .before .before .before .before .before .before .before .before .before .args in let now = c .before .before .before .before .before .before .before .loop in
     let t = turn-next (a .nvr .now) (a .size) (now .at) (c .before .before .before .parse .result) (omega arith) (c .before .before .before .parse .ensures) _ (c .before .n .given .1) in
-    (omega (arith, t .within), now .inv .1 ∙ t .same)
+    (omega (arith, t .within), omega (arith, t .more), now .inv .2 ∙ t .same (now .count))
 
 enum-known-stop : tie.Need-enum-known-stop Inv-loop μ-loop
 enum-known-stop c = search needs
 
 returns : tie.Need-returns Inv-loop μ-loop
-returns c = let a = c .before .before .before .before .before .before .before .before .args in let now = c .before .before .before .before .before .before .loop in
-    sym (now .inv .1 ∙ turn-halt (a .nvr .now) (a .size) (now .at) (c .before .before .before .parse .result) (omega arith) (c .before .before .before .parse .ensures) _ (c .before .stop .given .1))
+returns c = let a = c .before .before .before .before .before .before .before .before .before .before .args in let now = c .before .before .before .before .before .before .before .loop in
+    sym (now .inv .2 ∙ turn-halt (a .nvr .now) (a .size) (now .at) (c .before .before .before .parse .result) (omega arith) (c .before .before .before .parse .ensures) (now .count) _ (c .before .stop .given .1))
 
 returns-2 : tie.Need-returns-2 Inv-loop μ-loop
-returns-2 c = let a = c .before .before .before .args in let now = c .before .loop in sym (now .inv .1 ∙ turn-end (a .nvr .now) (a .size) (now .at) (omega arith))
+returns-2 c = let a = c .before .before .before .before .args in let now = c .before .loop in sym (now .inv .2 ∙ turn-end (a .nvr .now) (a .size) (now .at) (now .count) (omega arith))
 
 pub read-records-spec : {M : Type 1} → statement M
 read-records-spec =
@@ -68,6 +75,7 @@ read-records-spec =
     (tie.spec
     Inv-loop
     μ-loop
+    tables-requires
     loop-holds
     add-loop
     sub-parse
@@ -76,6 +84,7 @@ read-records-spec =
     parse-requires
     enum-known-n
     add-at
+    add-count
     loop-less
     loop-again
     enum-known-stop

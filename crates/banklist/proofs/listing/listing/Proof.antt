@@ -1,20 +1,21 @@
--- `listing`: a short `out` is left alone (`left-alone`); else by what the reader answers (`said`) a text is put at its front (`left-listed`). A
+-- `listing`: a short `out` is left alone (`left-alone`); else by what the reader answers (`said`) a text is put at its front (`left-printed`). A
 -- bank's lines fit (`listing-fits`).
 use mathlib.Core.Path.{sym, _∙_}
 use native.Mathlib.Omega.{arith}
 use lib.Seq.{length-take-le}
 use Rattle.bank.specs.Bank.{bankSize}
 use Rattle.text.specs.Text.{field, line}
-use Rattle.banklist.specs.Listing.{outSize}
+use Rattle.text.proofs.PutLaws.{left-alone, left-printed}
+use Rattle.banklist.specs.Listing.{listing, outSize}
 use Rattle.banklist.proofs.FitLaws.{listing-fits}
-use Rattle.banklist.proofs.ListingLaws.{said, left-alone, left-listed}
+use Rattle.banklist.proofs.ListingLaws.{said}
 use Rattle.banklist.proofs.listing.listing.Statement.{statement}
 use Rattle.banklist.proofs.listing.listing.Tie as tie
 use borrow.Author.Needs.{needs}
 
 returns : tie.Need-returns
 unfolding outSize
-returns c = left-alone (c .before .before .before .args .nvr .now) (c .before .before .before .args .out .now) (omega arith)
+returns c = left-alone outSize (listing (c .before .before .before .args .nvr .now)) (c .before .before .before .args .out .now) (omega arith)
 
 parse-requires : tie.Need-parse-requires
 parse-requires c κs = search needs
@@ -77,7 +78,7 @@ unfolding outSize field line
 returns-2 c = let t = c .before .before .before .before .before in
     let a = t .before .before .before .before .before .before .args in
     let o = said (a .nvr .now) _ (sym (t .enum-told .given .1) ∙ t .before .before .parse .ensures) in
-    left-listed (a .nvr .now) (a .out .now) (omega arith) _ _ _ o (c .before .before .put-all .ensures)
+    left-printed outSize (listing (a .nvr .now)) (a .out .now) (omega arith) o (c .before .before .put-all .ensures)
 
 same-length-2 : tie.Need-same-length-2
 same-length-2 c = search needs
@@ -87,7 +88,7 @@ unfolding outSize field line
 returns-3 c = let t = c .before .before .before .before .before in
     let a = t .before .before .before .before .before .before .args in
     let o = said (a .nvr .now) _ (sym (t .enum-told2 .given .1) ∙ t .before .before .parse .ensures) in
-    left-listed (a .nvr .now) (a .out .now) (omega arith) _ _ _ o (c .before .before .put-all2 .ensures)
+    left-printed outSize (listing (a .nvr .now)) (a .out .now) (omega arith) o (c .before .before .put-all2 .ensures)
 
 same-length-3 : tie.Need-same-length-3
 same-length-3 c = search needs
@@ -97,7 +98,7 @@ unfolding outSize field line
 returns-4 c = let t = c .before .before .before .before .before in
     let a = t .before .before .before .before .before .before .args in
     let o = said (a .nvr .now) _ (sym (t .enum-told3 .given .1) ∙ t .before .before .parse .ensures) in
-    left-listed (a .nvr .now) (a .out .now) (omega arith) _ _ _ o (c .before .before .put-all3 .ensures)
+    left-printed outSize (listing (a .nvr .now)) (a .out .now) (omega arith) o (c .before .before .put-all3 .ensures)
 
 same-length-4 : tie.Need-same-length-4
 same-length-4 c = search needs
@@ -107,7 +108,7 @@ unfolding outSize bankSize
 returns-5 c = let t = c .before .before .before .before .before .before in
     let a = t .before .before .before .before .before .before .args in
     let k = said (a .nvr .now) _ (sym (t .p .given .1) ∙ t .before .before .parse .ensures) in
-    left-listed (a .nvr .now) (a .out .now) (omega arith) _ _ _ (k .lists) (c .before .before .bank-lines .ensures (k .bank) (k .read))
+    left-printed outSize (listing (a .nvr .now)) (a .out .now) (omega arith) (k .lists) (c .before .before .bank-lines .ensures (k .bank) (k .read))
 
 pub listing-spec : {M : Type 1} → statement M
 listing-spec =

@@ -1,0 +1,4 @@
+pub mod Order
+pub mod Facts
+pub mod NamedLaws
+pub mod CauseLaws
