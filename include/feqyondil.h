@@ -107,6 +107,38 @@ uint32_t feqyondil_partition_serialize(const uint8_t *nvr, size_t nvr_len, uint8
                                        uint64_t fields[8]);
 
 /*
+ * Causes as feqyondil_bank_cause answers them. Those from FEQYONDIL_CAUSE_SIGNATURE to
+ * FEQYONDIL_CAUSE_CRC make a bank Invalid; with those behind them it is Valid.
+ */
+#define FEQYONDIL_CAUSE_SHORT 0u     /* too few bytes were lent */
+#define FEQYONDIL_CAUSE_EMPTY 1u     /* all bytes are 0xFF */
+#define FEQYONDIL_CAUSE_SIGNATURE 2u
+#define FEQYONDIL_CAUSE_VERSION 3u
+#define FEQYONDIL_CAUSE_SIZE 4u
+#define FEQYONDIL_CAUSE_NAME 5u      /* a record's name length is 0 */
+#define FEQYONDIL_CAUSE_CRC 6u       /* a record's CRC is not that of its value */
+#define FEQYONDIL_CAUSE_BLANK 7u     /* reading stopped at a blank ... */
+#define FEQYONDIL_CAUSE_START 8u     /* ... at a wrong start number */
+#define FEQYONDIL_CAUSE_LENGTH 9u    /* ... at a record over what remains of the bank */
+#define FEQYONDIL_CAUSE_END 10u      /* ... at the end of size */
+
+/* Places in the spot that goes with them. */
+#define FEQYONDIL_SPOT_PLACE 0u      /* of the byte, counted from the start of the bank */
+#define FEQYONDIL_SPOT_INDEX 1u      /* of the record, counted from 0 */
+
+/*
+ * Answers why reading the bank in the first 65,536 bytes of nvr stopped, FEQYONDIL_CAUSE_SHORT
+ * where fewer are lent. That is the first cause met: all 0xFF, signature, version, size, then record
+ * by record the end of size, a blank, the start number, the length, the name length, the CRC. A
+ * fault behind it is not named.
+ *
+ * spot gets the place of the byte and the index of the record. The place is 0, 14 or 4 for
+ * signature, version and size, where the index is 0, and 8 or 32 past the record's start for name
+ * length and CRC. Zeros for the causes that don't make the bank Invalid.
+ */
+uint32_t feqyondil_bank_cause(const uint8_t *nvr, size_t nvr_len, uint64_t spot[2]);
+
+/*
  * Whether two banks hold the same settings: both are Valid, their headers' named fields are equal
  * (FEQYONDIL_FIELD_SIZE to FEQYONDIL_FIELD_COMMON_LIMIT), and their records are equal, in order,
  * dead ones too. Reserved and closing bytes, what stands behind the records, and the usable size

@@ -1,16 +1,17 @@
 /*
  * The header and the library from C: a store is opened, edited and committed until its bank moves,
  * the flash is written as the commits ask, and what is opened again has the values. What the header
- * says of null pointers, of the state's numbers, of a store after a move and after 12, and of the settings
- * of two banks is tried too.
+ * says of null pointers, of the state's numbers, of a store after a move and after 12, of the settings of
+ * two banks, and of why reading a bank stopped is tried too.
  */
 #include "board.h"
 
 #define FLASH (sizeof flash)
 #define SIZE 200u
 #define TURNS 9u
+#define RECORD 42u /* of the key and a value of one byte */
 
-static uint64_t requests[4], found[3], length[1], fields[8], same[1];
+static uint64_t requests[4], found[3], length[1], fields[8], same[1], spot[2];
 
 static const uint8_t key[] = {'r', 'a', 't', 'e'};
 
@@ -110,6 +111,24 @@ static void settings(void) {
     check(same[0] == 0, "the answer with 14");
 }
 
+/* Of the bank in output, and the spot that goes with it. */
+static int is_cause(uint32_t cause, uint64_t place, uint64_t index) {
+    uint32_t answer = feqyondil_bank_cause(OTHER, spot);
+    return answer == cause && spot[FEQYONDIL_SPOT_PLACE] == place && spot[FEQYONDIL_SPOT_INDEX] == index;
+}
+
+/* A wrong CRC of the second record is named, and then what is met before it. */
+static void causes(void) {
+    memcpy(output, flash + FEQYONDIL_BANK_SIZE, FEQYONDIL_BANK_SIZE);
+    check(is_cause(FEQYONDIL_CAUSE_END, 0, 0), "end");
+    output[24 + RECORD + 32] ^= 1;
+    check(is_cause(FEQYONDIL_CAUSE_CRC, 24 + RECORD + 32, 1), "crc");
+    output[24 + 8] = 0;
+    check(is_cause(FEQYONDIL_CAUSE_NAME, 24 + 8, 0), "name");
+    output[14] = 2;
+    check(is_cause(FEQYONDIL_CAUSE_VERSION, 14, 0), "version");
+}
+
 #define NONE NULL, 0
 #define STATE state, sizeof state
 #define WORK work, sizeof work
@@ -124,6 +143,7 @@ static void nulls_of_banks(void) {
     check(feqyondil_partition_parse(NONE, fields) == FEQYONDIL_SLOT_SHORT, "null: parse");
     check(feqyondil_partition_serialize(NONE, output, FLASH, fields) == FEQYONDIL_SLOT_SHORT, "null: serialize");
     check(feqyondil_partition_serialize(flash, FLASH, NONE, fields) == FEQYONDIL_SLOT_SHORT, "null: part");
+    check(feqyondil_bank_cause(NONE, spot) == FEQYONDIL_CAUSE_SHORT, "null: cause");
     check(feqyondil_same_settings(NONE, OTHER, same) == FEQYONDIL_BANK_LENGTH, "null: settings, one");
     check(feqyondil_same_settings(ONE, NONE, same) == FEQYONDIL_BANK_LENGTH, "null: settings, other");
     check(feqyondil_same_settings(NONE, NONE, same) == FEQYONDIL_BANK_LENGTH, "null: settings");
@@ -168,6 +188,7 @@ int main(void) {
     check(erases == 1, "erases");
     over();
     settings();
+    causes();
     nulls_of_banks();
     nulls_of_edits();
     nulls_of_flash();

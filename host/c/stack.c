@@ -29,6 +29,7 @@ static void partition_parse(void) { answer = feqyondil_partition_parse(flash, si
 static void partition_serialize(void) {
     answer = feqyondil_partition_serialize(flash, sizeof flash, output, sizeof output, numbers);
 }
+static void bank_cause(void) { answer = feqyondil_bank_cause(flash, sizeof flash, numbers); }
 static void open_store(void) { answer = feqyondil_open(flash, sizeof flash, STORE); }
 static void insert(void) { answer = feqyondil_insert(STORE, KEY, value, sizeof value, FEQYONDIL_SYSTEM); }
 static void remove_key(void) { answer = feqyondil_remove(STORE, KEY, FEQYONDIL_SYSTEM); }
@@ -51,6 +52,7 @@ static const struct {
     {"crc32_with", crc32_with},
     {"partition_parse", partition_parse},
     {"partition_serialize", partition_serialize},
+    {"bank_cause", bank_cause},
     {"open", open_store},
     {"insert", insert},
     {"lookup", lookup},

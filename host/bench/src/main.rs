@@ -4,6 +4,7 @@
 mod blocks;
 mod bytewise;
 mod case;
+mod cause;
 mod checksum;
 mod lent;
 mod measure;
@@ -36,6 +37,7 @@ fn main() {
     };
     show("checksum", checksum::run);
     show("bank", partition::run);
+    show("cause", cause::run);
     show("settings", settings::run);
     show("store", store::run);
     show("commit", store::run_commits);

@@ -8,6 +8,7 @@ mod runs;
 mod settings;
 
 use cuts::{Manner, Repeated, Single, Strikes};
+use feqyondil::bank_cause;
 
 use crate::judge::Judge;
 use crate::partition::lent;
@@ -17,8 +18,8 @@ use crate::store::lent::Port;
 pub fn all(judge: &mut Judge) -> Result<(), String> {
     let port = Port::default();
     judge.hold(&checksum::Checksum::new())?;
-    judge.hold(&banks::Banks::new(lent::read))?;
-    judge.hold(&settings::Settings { port: settings::port })?;
+    judge.hold(&banks::Banks::new(lent::read, bank_cause))?;
+    judge.hold(&settings::Settings { port: settings::port, cause: bank_cause })?;
     judge.hold(&runs::Runs { port })?;
     judge.hold(&any_state::AnyState { port })?;
     judge.hold(&Strikes { port })?;

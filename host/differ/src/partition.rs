@@ -1,5 +1,6 @@
 //! Readers of one bank: the Rust, the port, and the words of the scope paper (01).
 
+pub mod cause;
 pub mod lent;
 pub mod model;
 pub mod rust;

@@ -5,6 +5,7 @@ use std::format;
 use std::string::String;
 use std::vec::Vec;
 
+use crate::cause;
 use crate::commit::{told, Commit};
 use crate::partition::slot;
 use crate::state::*;
@@ -56,6 +57,7 @@ fn each_number_is_the_headers() {
     sizes(&mut defined);
     states(&mut defined);
     banks(&mut defined);
+    causes(&mut defined);
     answers(&mut defined);
     assert_eq!(defined.0, [], "defined, and not in the crate");
 }
@@ -124,6 +126,32 @@ fn banks(defined: &mut Defined) {
         usable: field("FIELD_USABLE") as usize,
     };
     assert_eq!(slot(valid, [1, 2, 3, 4, 5, 6, 7, 8]), Slot::Valid(bank));
+}
+
+/// Each with the spot that the library answers, whose numbers have the places that are defined.
+fn causes(defined: &mut Defined) {
+    let (place, index) = (defined.take_place("SPOT_PLACE"), defined.take_place("SPOT_INDEX"));
+    let at = |byte, record| {
+        let mut spot = [0; 2];
+        (spot[place], spot[index]) = (byte, record);
+        spot
+    };
+    let spot = Spot { place: 82, index: 1 };
+    for (name, answered, own) in [
+        ("CAUSE_SHORT", at(0, 0), Cause::Short),
+        ("CAUSE_EMPTY", at(0, 0), Cause::Empty),
+        ("CAUSE_SIGNATURE", at(0, 0), Cause::Signature),
+        ("CAUSE_VERSION", at(14, 0), Cause::Version),
+        ("CAUSE_SIZE", at(4, 0), Cause::Size),
+        ("CAUSE_NAME", at(82, 1), Cause::Name(spot)),
+        ("CAUSE_CRC", at(82, 1), Cause::Crc(spot)),
+        ("CAUSE_BLANK", at(0, 0), Cause::Blank),
+        ("CAUSE_START", at(0, 0), Cause::Start),
+        ("CAUSE_LENGTH", at(0, 0), Cause::Length),
+        ("CAUSE_END", at(0, 0), Cause::End),
+    ] {
+        assert_eq!(cause::told(defined.take(name), answered), own, "{name}");
+    }
 }
 
 fn answers(defined: &mut Defined) {

@@ -3,8 +3,8 @@
 //! [`Store`] opens an image of the flash, looks values up, edits them, and says what a commit asks
 //! of the flash; the caller erases and writes. Every buffer is the caller's: [`PART_SIZE`] bytes of
 //! work area for each bank, [`BANK_SIZE`] bytes of output for a commit. [`lent`] has the same calls
-//! on any bytes, with numbers, as C has them. [`same_settings`] compares two banks. Calls on
-//! different buffers may run at once.
+//! on any bytes, with numbers, as C has them. [`same_settings`] compares two banks; [`bank_cause`]
+//! says why reading a bank stopped. Calls on different buffers may run at once.
 //!
 //! It links libfeqyondil.a, for x86-64, from the folder that the environment variable FEQYONDIL_LIB
 //! names, else from dist/ of the repository, where `make lib` puts it.
@@ -18,6 +18,7 @@
 #[cfg(test)]
 extern crate std;
 
+mod cause;
 mod checksum;
 mod commit;
 #[cfg(test)]
@@ -25,10 +26,13 @@ mod header;
 pub mod lent;
 mod partition;
 mod refusal;
+#[cfg(test)]
+mod samples;
 mod settings;
 pub mod state;
 mod store;
 
+pub use cause::{bank_cause, Cause, Spot};
 pub use checksum::{crc32, Tables};
 pub use commit::{Commit, NotCommitted};
 pub use partition::{partition_parse, partition_serialize, Partition, Slot};

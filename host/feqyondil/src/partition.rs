@@ -87,7 +87,7 @@ pub(crate) fn slot(number: u32, fields: [u64; 8]) -> Slot {
     }
 }
 
-fn narrow<T: TryFrom<u64>>(field: u64) -> T {
+pub(crate) fn narrow<T: TryFrom<u64>>(field: u64) -> T {
     T::try_from(field)
         .unwrap_or_else(|_| panic!("the library answered {field}, too large for its field"))
 }

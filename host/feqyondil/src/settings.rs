@@ -43,23 +43,14 @@ fn told(number: u32, same: [u64; 1]) -> Result<bool, Refusal> {
 #[cfg(test)]
 mod tests {
     use super::*;
-    use crate::{crc32, partition_parse, Slot, BANK_SIZE};
+    use crate::samples::{self, VALUE};
+    use crate::{partition_parse, Slot, BANK_SIZE};
     use std::vec;
     use std::vec::Vec;
 
-    const VALUE: &[u8] = b"123456789";
-
     /// Of one live record from 24 on, with this value from 65 on.
     fn bank(value: &[u8]) -> Vec<u8> {
-        let mut bank = b"3VVN\0\0\x01\0\x05\0\0\0\xFE\x5A\x01\0\0\x20\0\0\0\x20\0\0".to_vec();
-        bank.extend(b"\xAA\x55\x7F\0\0\0\0\0\x05\0\0\0");
-        bank.extend((value.len() as u32).to_le_bytes());
-        bank.extend([9; 16]);
-        bank.extend(crc32(value).to_le_bytes());
-        bank.extend(b"rate\0");
-        bank.extend(value);
-        bank.resize(BANK_SIZE, 0xFF);
-        bank
+        samples::bank(65_536, &[value])
     }
 
     /// The answer for that bank and the same with other bytes from a place on.

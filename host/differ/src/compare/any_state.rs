@@ -1,8 +1,9 @@
 //! The port's calls on any state and any work area: refusal 6, or the answer of the book that they
-//! are.
+//! are; and the causes of the banks that they were made of.
 
 use crate::describe::{case, Case};
 use crate::judge::{Comparison, Mode, Numbers, Part};
+use crate::partition::cause::compare_all;
 use crate::store::fuzz;
 use crate::store::lent::Port;
 
@@ -24,7 +25,9 @@ impl Comparison for AnyState {
         let sound = fuzz::compare(&input.made(), self.port, input.standing)?;
         let sound = u64::from(sound);
         let refused = ("refused with 6", 1 - sound);
-        Ok(Numbers::of(&[("calls, all as 01 says", 1), ("on sound ones", sound), refused]))
+        let numbers = [("calls, all as 01 says", 1), ("on sound ones", sound), refused];
+        let causes = compare_all(self.port.cause, &input.image.made())?;
+        Ok(Numbers::of(&[&numbers[..], &causes.numbers()].concat()))
     }
 
     fn told(&self, input: &Case) -> String {

@@ -1,6 +1,7 @@
 //! The reading of banks: the port against the Rust on the domain where both are to be equal, and
-//! against the scope paper's words (01) everywhere.
+//! against the scope paper's words (01) everywhere; and why it stopped, against those of N2.
 
+mod causes;
 mod edges;
 
 use image::{Header, BANK, HEADER};
@@ -9,7 +10,8 @@ use proptest::sample::select;
 
 use crate::describe::{self, slot, Bytes, Style};
 use crate::judge::{Comparison, Mode, Numbers, Part};
-use crate::partition::lent::{Lending, GUARD};
+use crate::partition::cause::{kind, parting, Causes, PortCause};
+use crate::partition::lent::{self, Lending, GUARD};
 use crate::partition::model::{self, Outside};
 use crate::partition::slot::Slot;
 use crate::partition::{rust, Read};
@@ -19,6 +21,7 @@ pub type PortReader = for<'a> fn(&[u8], Lending, &'a mut Vec<u8>) -> Read<'a>;
 
 pub struct Banks {
     port: PortReader,
+    cause: PortCause,
     /// What follows the bank in its image: a Valid bank without records, then random bytes.
     next: Vec<u8>,
 }
@@ -31,10 +34,10 @@ pub struct Input {
 }
 
 impl Banks {
-    pub fn new(port: PortReader) -> Self {
+    pub fn new(port: PortReader, cause: PortCause) -> Self {
         let header = Header::new(HEADER as u32, 1);
         let next = describe::Slot::bank(header, Vec::new(), Bytes::Random(BANK, 1)).made();
-        Banks { port, next }
+        Banks { port, cause, next }
     }
 }
 
@@ -48,6 +51,7 @@ impl Comparison for Banks {
         let edges = edges::all().step_by(mode.pick(17, 1, 1)).enumerate();
         let edges = edges.map(|(i, slot)| Input { slot, how: nth(i) });
         vec![
+            Part::each("of each cause", fixed()),
             Part::each("at boundaries", edges),
             Part::drawn("random", mode.pick(3_200, 130_000, 0), random()),
         ]
@@ -63,18 +67,29 @@ impl Comparison for Banks {
         let said = model::read(&image[..BANK]);
         let mut buffer = Vec::new();
         let port = (self.port)(image, how, &mut buffer);
+        let cause = lent::cause(self.cause, image, how);
         let rust = said.outside.is_none().then(|| rust::read(image));
-        let equal = |slot: &Read| slot.as_ref() == Ok(&said.slot);
-        if equal(&port) && rust.as_ref().map_or(true, equal) {
+        // Either reads the bank as what its cause makes it.
+        let equal = |read: &Read| {
+            let read = read.as_ref();
+            read == Ok(&said.slot) && read.map(Slot::kind) == Ok(kind(said.cause))
+        };
+        if equal(&port) && rust.as_ref().map_or(true, equal) && cause == Ok(said.cause) {
             return Ok(counted(&said));
         }
         let rust = match rust {
             Some(answer) => text(answer),
             None => "not asked: outside the domain".to_string(),
         };
-        let (said, port) = (said.slot, text(port));
-        Err(format!("  Rust: {rust}\n  01:   {said}\n  port: {port}"))
+        let (slot, port, parting) = (said.slot, text(port), parting(said.cause, &cause));
+        Err(format!("  Rust: {rust}\n  01:   {slot}\n  port: {port}\n{parting}"))
     }
+}
+
+/// Those of each cause.
+pub fn fixed() -> impl Iterator<Item = Input> {
+    let banks = causes::all().into_iter().enumerate();
+    banks.map(|(i, (_, slot))| Input { slot, how: nth(i) })
 }
 
 /// Bytes behind the bank and in the part, and lengths that are short of one.
@@ -120,7 +135,7 @@ fn counted(read: &model::Reading) -> Numbers {
     };
     let outside = |why| u64::from(read.outside == Some(why));
     let is = u64::from;
-    Numbers::of(&[
+    let numbers = [
         ("banks as 01 says", 1),
         ("of them equal to the Rust", is(read.outside.is_none())),
         ("outside its domain by size", outside(Outside::Size)),
@@ -130,5 +145,9 @@ fn counted(read: &model::Reading) -> Numbers {
         ("records", records.unwrap_or(0)),
         ("Empty", is(read.slot == Slot::Empty)),
         ("Invalid", is(read.slot == Slot::Invalid)),
-    ])
+    ];
+    // Of each bank too few bytes were lent too.
+    let mut causes = Causes::of(None);
+    causes += Causes::of(Some(read));
+    Numbers::of(&[&numbers[..], &causes.numbers()].concat())
 }

@@ -1,9 +1,11 @@
 //! The comparisons can fail: faults planted in the port are found among random inputs, and made as
 //! small as is said.
 
+mod causes;
 mod faults;
 mod settings;
 
+use feqyondil::bank_cause;
 use proptest::strategy::Strategy;
 
 use super::any_state::AnyState;
@@ -74,7 +76,7 @@ const ANY_STATE: [Row; 2] = [
 ];
 
 fn planted(fault: fn(&mut Done)) -> Port {
-    Port { fault: Some(fault) }
+    Port { fault: Some(fault), ..Port::default() }
 }
 
 fn small((_, calls, records, words): Row, size: (usize, usize), told: &str) {
@@ -113,7 +115,7 @@ fn faults_are_found_in_the_reading_of_banks() {
         (attributes_off, 1, &["attributes: 0x1"]),
     ];
     for (port, records, words) in rows {
-        let Difference { input, why } = found(&Banks::new(port), banks::random());
+        let Difference { input, why } = found(&Banks::new(port, bank_cause), banks::random());
         let told = format!("{input:?}\n{why}");
         let described = input.slot.described().map_or(0, |bank| bank.records.len() * bank.times);
         assert!(described <= records, "{told}");

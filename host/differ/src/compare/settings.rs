@@ -1,11 +1,13 @@
 //! Whether two banks hold the same settings: the port against the words of N1 everywhere, and
-//! against the Rust where both banks are on the domain on which it reads as the port does.
+//! against the Rust where both banks are on the domain on which it reads as the port does. Why the
+//! reading of either stopped is asked too.
 
 mod fixed;
 mod kinds;
 
 use crate::describe::{pair, Pair};
 use crate::judge::{Comparison, Mode, Numbers, Part};
+use crate::partition::cause::{self, Causes, PortCause};
 use crate::partition::model::Reading;
 use crate::partition::rust;
 use crate::partition::settings::{read, said, Answer};
@@ -17,6 +19,7 @@ pub type PortAnswer = fn(&[u8], &[u8]) -> Answer;
 
 pub struct Settings {
     pub port: PortAnswer,
+    pub cause: PortCause,
 }
 
 pub fn port(one: &[u8], other: &[u8]) -> Answer {
@@ -38,12 +41,12 @@ impl Comparison for Settings {
         let [one, other] = &input.made();
         let read = read([one, other]);
         let said = said(read.as_ref());
-        let port = self.lent(input, one, other)?;
+        let (port, causes) = self.lent(input, one, other)?;
         let asked = comparable(input, read.as_ref());
         let rust = asked.then(|| rust::same_settings(&[&one[..], other].concat()));
         let equal = |rust: &Result<bool, String>| rust.as_ref().ok() == said.as_ref().ok();
         if port == said && rust.as_ref().map_or(true, equal) {
-            return Ok(kinds::counted([one, other], read.as_ref(), asked));
+            return Ok(kinds::counted([one, other], read.as_ref(), asked, causes));
         }
         let rust = rust.map_or("not asked".to_string(), text);
         Err(format!("  Rust: {rust}\n  N1:   {}\n  port: {}", text(said), text(port)))
@@ -59,12 +62,16 @@ fn comparable(input: &Pair, read: Option<&[Reading; 2]>) -> bool {
 
 impl Settings {
     /// The port's answer on lent banks, which it is to leave as they are.
-    fn lent(&self, input: &Pair, one: &[u8], other: &[u8]) -> Result<Answer, String> {
+    fn lent(&self, input: &Pair, one: &[u8], other: &[u8]) -> Result<(Answer, Causes), String> {
         let [first, second] = input.standing;
         let lent = [Buffer::new(one, first), Buffer::new(other, second)];
         let answer = (self.port)(lent[0].bytes(), lent[1].bytes());
+        let mut causes = Causes::default();
+        for buffer in &lent {
+            causes += cause::compare_all(self.cause, buffer.bytes())?;
+        }
         match lent[0].still_holds(one) && lent[1].still_holds(other) {
-            true => Ok(answer),
+            true => Ok((answer, causes)),
             false => Err("  port: it wrote where it was not to".to_string()),
         }
     }
@@ -102,7 +109,8 @@ mod tests {
     #[test]
     fn random_pairs_are_of_every_kind() {
         let inputs = Part::drawn("", 4_000, pair(false)).inputs;
-        let counts = Judge::new(Mode::Short, 3).part(&Settings { port }, "", inputs).unwrap();
+        let settings = Settings { port, cause: feqyondil::bank_cause };
+        let counts = Judge::new(Mode::Short, 3).part(&settings, "", inputs).unwrap();
         for (kind, name) in NAMES {
             assert!(counts.get(name) >= 20, "{kind:?}: {counts}");
         }

@@ -50,6 +50,7 @@ impl Style {
             value: content(long(66_000)).boxed(),
             most: 40,
             times: times(8),
+            behind: prop_oneof![16 => behind(), 1 => blanks(RECORD, begun())].boxed(),
             damaged_of: Some(2),
             ..Style::store()
         }
@@ -173,14 +174,21 @@ fn long(most: usize) -> impl Strategy<Value = usize> {
 
 /// Mostly nothing; else blanks and other bytes, or what only begins as a record.
 fn behind() -> impl Strategy<Value = Bytes> {
-    let blanks = (0..3 * RECORD, select(&[0xFF, 0][..]), content(0..40usize));
-    let blanks =
-        blanks.prop_map(|(len, byte, then)| Bytes::Joined(vec![Bytes::Fill(len, byte), then]));
+    let blanks = blanks(0, content(0..40usize));
+    let junk = content(0..=BANK);
+    prop_oneof![24 => Just(Bytes::default()), 4 => blanks, 4 => begun(), 1 => junk]
+}
+
+/// At least so many of them, and what is behind.
+fn blanks(least: usize, then: impl Strategy<Value = Bytes>) -> impl Strategy<Value = Bytes> {
+    let blanks = (least..3 * RECORD, select(&[0xFF, 0][..]), then);
+    blanks.prop_map(|(len, byte, then)| Bytes::Joined(vec![Bytes::Fill(len, byte), then]))
+}
+
+fn begun() -> impl Strategy<Value = Bytes> {
     let lengths = (select(&NUMBERS[..]), select(&NUMBERS[..]), content(0..40usize));
-    let begun = lengths.prop_map(|(name, value, then)| {
+    lengths.prop_map(|(name, value, then)| {
         let record = Bytes::Record(Box::default(), [Some(name), Some(value)]);
         Bytes::Joined(vec![record, then])
-    });
-    let junk = content(0..=BANK);
-    prop_oneof![24 => Just(Bytes::default()), 4 => blanks, 4 => begun, 1 => junk]
+    })
 }

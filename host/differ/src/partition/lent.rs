@@ -1,8 +1,10 @@
-//! The port's reading of a bank: both calls, and all that they are to leave alone.
+//! The port's reading of a bank: both calls and all that they are to leave alone, and the call that
+//! says why reading stopped.
 
-use feqyondil::{partition_parse, partition_serialize};
+use feqyondil::{partition_parse, partition_serialize, Cause};
 use image::{is_erased, Header, BANK};
 
+use super::cause::PortCause;
 use super::slot::Slot;
 use super::{written, Read};
 
@@ -42,6 +44,14 @@ pub fn read<'a>(image: &[u8], how: Lending, buffer: &'a mut Vec<u8>) -> Read<'a>
     untouched(&buffer[..GUARD])?;
     untouched(&buffer[part.end..])?;
     view(parsed, &buffer[part])
+}
+
+/// Which cause the port names of the first bank of `image`; of too few bytes it is Short.
+pub fn cause(port: PortCause, image: &[u8], how: Lending) -> Result<Cause, String> {
+    match port(&image[..how.short]) {
+        Cause::Short => Ok(port(&image[..how.nvr])),
+        other => Err(format!("{other}, with {} bytes", how.short)),
+    }
 }
 
 /// Calls with too few bytes are Short and leave the part as it was.

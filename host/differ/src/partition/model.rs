@@ -1,13 +1,17 @@
-//! What a bank is by the words of the scope paper (01), 'Bank and record': written from
-//! them and from neither side's code, so that it can judge the port where the Rust cannot.
+//! What a bank is by the words of the scope paper (01), 'Bank and record', and why its reading
+//! stopped by those of N2: written from them and from neither side's code, so that it can judge the
+//! port where the Rust cannot.
 
-use image::{number, Header, Record};
+use feqyondil::{Cause, Spot};
+use image::{is_erased, number, Header, Record};
 
 use super::slot::{Bank, Slot};
 
 /// A bank as 01 reads it.
 pub struct Reading<'a> {
     pub slot: Slot<&'a [u8]>,
+    /// Why it stopped.
+    pub cause: Cause,
     /// Why the bank lies outside the domain on which the Rust and the port are equal, if it does.
     pub outside: Option<Outside>,
 }
@@ -25,7 +29,7 @@ pub enum Outside {
 /// What the walk meets at an offset.
 enum Met<'a> {
     Record(Record<&'a [u8]>, usize),
-    Stop { usable: usize },
+    Stop { cause: Cause, usable: usize },
     TooLong,
     NoName,
     WrongCrc,
@@ -34,13 +38,17 @@ enum Met<'a> {
 pub fn read(bank: &[u8]) -> Reading<'_> {
     assert_eq!(bank.len(), 65_536);
     let size = number(bank, 4);
-    if &bank[..4] != b"3VVN" || bank[14] != 1 {
-        let erased = bank.iter().all(|&b| b == 0xFF);
-        let slot = if erased { Slot::Empty } else { Slot::Invalid };
-        return reading(slot, None);
+    if is_erased(bank) {
+        return Reading { slot: Slot::Empty, cause: Cause::Empty, outside: None };
+    }
+    if &bank[..4] != b"3VVN" {
+        return invalid(Cause::Signature, None);
+    }
+    if bank[14] != 1 {
+        return invalid(Cause::Version, None);
     }
     if !(24..=65_536).contains(&size) {
-        return reading(Slot::Invalid, Some(Outside::Size));
+        return invalid(Cause::Size, Some(Outside::Size));
     }
     walk(bank, size as usize)
 }
@@ -48,34 +56,35 @@ pub fn read(bank: &[u8]) -> Reading<'_> {
 fn walk(bank: &[u8], size: usize) -> Reading<'_> {
     let mut records = Vec::new();
     let mut offset = 24;
-    let (mut usable, mut outside) = (size, None);
+    let (mut cause, mut usable, mut outside) = (Cause::End, size, None);
     while offset + 36 < size {
+        let spot = |field| Spot { place: offset + field, index: records.len() };
         match meet(bank, size, offset) {
             Met::Record(record, len) => {
                 records.push(record);
                 offset += len;
                 continue;
             }
-            Met::Stop { usable: at } => usable = at,
-            Met::TooLong => (usable, outside) = (offset, Some(Outside::Sum)),
-            Met::NoName => return reading(Slot::Invalid, Some(Outside::Name)),
-            Met::WrongCrc => return reading(Slot::Invalid, None),
+            Met::Stop { cause: why, usable: at } => (cause, usable) = (why, at),
+            Met::TooLong => (cause, usable, outside) = (Cause::Length, offset, Some(Outside::Sum)),
+            Met::NoName => return invalid(Cause::Name(spot(8)), Some(Outside::Name)),
+            Met::WrongCrc => return invalid(Cause::Crc(spot(32)), None),
         }
         break;
     }
     let slot = Slot::Valid(Bank { header: header(bank), records, usable });
-    reading(slot, outside)
+    Reading { slot, cause, outside }
 }
 
 fn meet(bank: &[u8], size: usize, offset: usize) -> Met<'_> {
     let head = &bank[offset..offset + 36];
     if head.iter().all(|&b| b == 0 || b == 0xFF) {
-        let usable = (offset + 36..size).find(|&at| bank[at] != 0xFF);
-        let usable = usable.unwrap_or(size);
-        return Met::Stop { usable };
+        let later = bank[offset + 36..size].iter().position(|&b| b != 0xFF);
+        let usable = later.map_or(size, |count| offset + 36 + count);
+        return Met::Stop { cause: Cause::Blank, usable };
     }
     if head[..2] != [0xAA, 0x55] {
-        return Met::Stop { usable: offset };
+        return Met::Stop { cause: Cause::Start, usable: offset };
     }
     let (name, value) = (number(head, 8) as u64, number(head, 12) as u64);
     if name + value >= 1 << 32 {
@@ -83,7 +92,7 @@ fn meet(bank: &[u8], size: usize, offset: usize) -> Met<'_> {
     }
     let len = (36 + name + value) as usize;
     if len > 65_536 - offset {
-        return Met::Stop { usable: offset };
+        return Met::Stop { cause: Cause::Length, usable: offset };
     }
     if name == 0 {
         return Met::NoName;
@@ -120,6 +129,6 @@ pub fn record<'a>(head: &[u8], key: &'a [u8], value: &'a [u8]) -> Record<&'a [u8
     }
 }
 
-fn reading(slot: Slot<&[u8]>, outside: Option<Outside>) -> Reading<'_> {
-    Reading { slot, outside }
+fn invalid<'a>(cause: Cause, outside: Option<Outside>) -> Reading<'a> {
+    Reading { slot: Slot::Invalid, cause, outside }
 }

@@ -23,6 +23,16 @@ pub struct Bank<B = Vec<u8>> {
     pub usable: usize,
 }
 
+impl<B> Slot<B> {
+    pub fn kind(&self) -> &'static str {
+        match self {
+            Slot::Empty => "Empty",
+            Slot::Invalid => "Invalid",
+            Slot::Valid(_) => "Valid",
+        }
+    }
+}
+
 impl Slot<&[u8]> {
     pub fn owned(self) -> Slot {
         match self {
@@ -72,13 +82,12 @@ pub fn size<B: AsRef<[u8]>>(record: &Record<B>) -> usize {
 
 impl<B: AsRef<[u8]>> Display for Slot<B> {
     fn fmt(&self, f: &mut Formatter) -> fmt::Result {
-        let bank = match self {
-            Slot::Empty => return write!(f, "Empty"),
-            Slot::Invalid => return write!(f, "Invalid"),
-            Slot::Valid(bank) => bank,
+        write!(f, "{}", self.kind())?;
+        let Slot::Valid(bank) = self else {
+            return Ok(());
         };
         let head = &bank.header;
-        write!(f, "Valid, total {}, usable {}, ", bank.total(), bank.usable)?;
+        write!(f, ", total {}, usable {}, ", bank.total(), bank.usable)?;
         write!(f, "size {}, generation {}, ", head.size, head.generation)?;
         write!(f, "state {:02x}, flags {:02x}, ", head.state, head.flags)?;
         write!(f, "limits {} {}, ", head.system_limit, head.common_limit)?;

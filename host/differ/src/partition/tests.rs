@@ -1,5 +1,6 @@
 //! The inputs of docs/DIFFERENCES.md, 'Bank': there the Rust does as is said.
 
+use feqyondil::bank_cause;
 use image::{put_number, Header, BANK, HEADER};
 
 use super::lent::{self, Lending};
@@ -15,6 +16,7 @@ fn outside(bank: &[u8]) -> (String, Option<Outside>) {
     let (said, mut buffer) = (model::read(bank), Vec::new());
     let port = lent::read(&image, PLAIN, &mut buffer);
     assert_eq!(port, Ok(said.slot));
+    assert_eq!(lent::cause(bank_cause, &image, PLAIN), Ok(said.cause));
     let rust = rust::read(&image).map_or_else(|fault| fault, |slot| slot.to_string());
     (rust, said.outside)
 }

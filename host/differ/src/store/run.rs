@@ -41,6 +41,7 @@ pub fn compare(run: &Run, port: Port) -> Result<Counts, String> {
         sides.call(&mut lent, call).map_err(place)?;
     }
     sides.end()?;
+    sides.counts.causes += lent.causes;
     Ok(sides.counts)
 }
 

@@ -7,6 +7,7 @@ use image::{number, BANK};
 use super::reader::{judge, Answers, Reader, Verdict};
 use super::steps::{steps, Order, Step};
 use crate::describe::{self, Action, Plan, SPARE};
+use crate::partition::cause::Causes;
 use crate::store::book::{sound, Book, PART};
 use crate::store::lent::call::{Answer, Call, What};
 use crate::store::lent::state::{Entry, State};
@@ -173,6 +174,13 @@ impl Device {
             mem::swap(&mut self.store, &mut self.reader.store);
         }
         Ok(verdict)
+    }
+
+    /// Of the banks of every flash that was opened.
+    pub fn causes(&self) -> Causes {
+        let mut causes = self.store.causes;
+        causes += self.reader.store.causes;
+        causes
     }
 
     /// What was done, and what came of it.

@@ -5,6 +5,7 @@ use super::reader::Verdict;
 use super::steps::{Step, DOWNWARD};
 use crate::describe::{plan, Action, Plan};
 use crate::judge::{Comparison, Mode, Numbers, Part};
+use crate::partition::cause::Causes;
 use crate::store::lent::Port;
 
 /// How a store goes on after a cut.
@@ -30,6 +31,7 @@ pub struct Count {
     /// the store.
     pub cuts_lost: u64,
     pub finished_lost: u64,
+    pub causes: Causes,
 }
 
 impl Comparison for Repeated {
@@ -52,12 +54,13 @@ impl Comparison for Repeated {
         if !known {
             done?;
         }
-        Ok(Numbers::of(&[
+        let numbers = [
             ("cuts", count.cuts),
             ("of them not kept", count.cuts_lost),
             ("finished commits", count.finished),
             ("of those not kept", count.finished_lost),
-        ]))
+        ];
+        Ok(Numbers::of(&[&numbers[..], &count.causes.numbers()].concat()))
     }
 
     fn told(&self, plan: &Plan) -> String {
@@ -72,12 +75,14 @@ impl Repeated {
         let Some(mut device) = opened else {
             return Ok(());
         };
-        device.go(plan, |device, action| {
+        let done = device.go(plan, |device, action| {
             if self.manner == Manner::MoveFirst {
                 device.move_first()?;
             }
             commit(device, action, count)
-        })
+        });
+        count.causes = device.causes();
+        done
     }
 }
 

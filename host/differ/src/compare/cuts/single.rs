@@ -5,6 +5,7 @@ use super::reader::Verdict;
 use super::steps::{Order, DOWNWARD, UPWARD};
 use crate::describe::{plan, Plan};
 use crate::judge::{Comparison, Mode, Numbers, Part};
+use crate::partition::cause::Causes;
 use crate::store::lent::Port;
 
 /// About so many cut points of a commit are judged that has more, and those near its ends.
@@ -24,6 +25,7 @@ pub struct Count {
 pub struct Cuts {
     commits: [u64; 2],
     counts: [[Count; 2]; 2],
+    causes: Causes,
 }
 
 impl Cuts {
@@ -34,14 +36,16 @@ impl Cuts {
         for (order, count) in [UPWARD, DOWNWARD].iter().zip(&mut self.counts[place]) {
             cut(device, commit, order, count)?;
         }
-        finish(device, commit)
+        finish(device, commit)?;
+        self.causes = device.causes();
+        Ok(())
     }
 
     /// What is lost downward is an error, and need not be counted.
     pub fn numbers(&self) -> Numbers {
         let [[in_place, _], [moved, _]] = self.counts;
         let points = self.counts.iter().flatten().map(|count| count.points);
-        Numbers::of(&[
+        let numbers = [
             ("cut points, half of them downward, which lose nothing", points.sum()),
             ("commits in place", self.commits[0]),
             (LOST[0], in_place.value_lost),
@@ -49,7 +53,8 @@ impl Cuts {
             ("commits that move", self.commits[1]),
             (LOST[1], moved.value_lost),
             ("the store there", moved.store_lost),
-        ])
+        ];
+        Numbers::of(&[&numbers[..], &self.causes.numbers()].concat())
     }
 }
 

@@ -89,7 +89,8 @@ fn all_usable(done: &mut Done) {
 
 #[test]
 fn bytes_of_a_cut_write_taken_as_usable_are_found() {
-    let repeated = Repeated { port: Port { fault: Some(all_usable) }, manner: Manner::MoveFirst };
+    let port = Port { fault: Some(all_usable), ..Port::default() };
+    let repeated = Repeated { port, manner: Manner::MoveFirst };
     let inputs = Part::drawn("", 2_000, plan()).inputs;
     let found = Judge::new(Mode::Short, 1).part(&repeated, "", inputs);
     let found = found.expect_err("a difference");

@@ -1,6 +1,6 @@
 //! Faults of the call that says whether two banks hold the same settings.
 
-use feqyondil::partition_parse;
+use feqyondil::{bank_cause, partition_parse};
 use image::{is_erased, Record, HEADER, RECORD};
 
 use super::{found, has};
@@ -35,7 +35,7 @@ const ROWS: [Row; 15] = [
 #[test]
 fn faults_are_found_in_the_comparing_of_settings() {
     for (port, most, words) in ROWS {
-        let Difference { input, why } = found(&Settings { port }, pair(false));
+        let Difference { input, why } = found(&Settings { port, cause: bank_cause }, pair(false));
         let told = format!("{input:?}\n{why}");
         assert!(records(&input) <= most, "{told}");
         has(&told, words);

@@ -3,6 +3,7 @@
 use image::{Header, Record, RECORD};
 
 use crate::judge::Numbers;
+use crate::partition::cause::Causes;
 use crate::partition::model::Reading;
 use crate::partition::slot::{Bank, Slot};
 use crate::store::book::LIVE;
@@ -65,12 +66,17 @@ pub const NAMES: [(Kind, &str); 22] = [
     (Kind::Over, "with a total over its size"),
 ];
 
-/// `asked` is whether the Rust was.
-pub fn counted(pair: [&[u8]; 2], read: Option<&[Reading; 2]>, asked: bool) -> Numbers {
+/// `asked` is whether the Rust was, and `causes` are those of the banks.
+pub fn counted(
+    pair: [&[u8]; 2],
+    read: Option<&[Reading; 2]>,
+    asked: bool,
+    causes: Causes,
+) -> Numbers {
     let kinds = of(pair, read);
     let named = NAMES.map(|(kind, name)| (name, u64::from(kinds.contains(&kind))));
     let all = [("pairs as N1 says", 1), ("of them equal to the Rust", u64::from(asked))];
-    Numbers::of(&[&all[..], &named].concat())
+    Numbers::of(&[&all[..], &named, &causes.numbers()].concat())
 }
 
 pub fn of(pair: [&[u8]; 2], read: Option<&[Reading; 2]>) -> Vec<Kind> {

@@ -1,6 +1,7 @@
 //! The port's calls on lent buffers, and what they are to leave alone.
 
 use super::call::{Answer, Call, What, ROOM};
+use crate::partition::cause::{compare_all, Causes, PortCause};
 
 /// Bytes before and after a buffer that nobody lent.
 const GUARD: usize = 64;
@@ -8,9 +9,16 @@ const GUARD: usize = 64;
 const BEFORE: u8 = 0xA5;
 
 /// The port, with a fault behind each of its calls where a test plants one.
-#[derive(Clone, Copy, Default)]
+#[derive(Clone, Copy)]
 pub struct Port {
     pub fault: Option<fn(&mut Done)>,
+    pub cause: PortCause,
+}
+
+impl Default for Port {
+    fn default() -> Self {
+        Port { fault: None, cause: feqyondil::bank_cause }
+    }
 }
 
 /// A call of the port that is done, for a planted fault to change.
@@ -80,6 +88,8 @@ pub struct Lent {
     pub standing: Standing,
     pub state: Buffer,
     pub work: Buffer,
+    /// Of the banks that were opened.
+    pub causes: Causes,
 }
 
 impl Lent {
@@ -89,13 +99,16 @@ impl Lent {
             standing,
             state: Buffer::new(state, standing),
             work: Buffer::new(work, standing),
+            causes: Causes::default(),
         }
     }
 
+    /// The port also names why the reading of each bank stopped, as 01 does.
     pub fn open(&mut self, image: &[u8]) -> Result<u32, String> {
         let (lent, before) = (Buffer::new(image, self.standing), self.before());
         let (state, work) = (self.state.bytes_mut(), self.work.bytes_mut());
         let number = feqyondil::lent::open(lent.bytes(), state, work);
+        self.causes += compare_all(self.port.cause, lent.bytes())?;
         self.untouched(&[(&lent, image)])?;
         match self.done(None, before, Answer::Number(number)) {
             Answer::Number(number) => Ok(number),

@@ -5,6 +5,7 @@ use std::fmt::{self, Display, Formatter};
 use std::ops::AddAssign;
 
 use super::wear::Pair;
+use crate::partition::cause::Causes;
 use crate::store::book::Book;
 use crate::store::lent::call::{Answer, Call};
 
@@ -30,6 +31,8 @@ pub struct Counts {
     pub numbers: By<u32>,
     /// Calls by their kind, and what is named above.
     pub others: By<&'static str>,
+    /// Of the banks of every opening and reopening.
+    pub causes: Causes,
     /// The pair with the fewest bytes inserted between.
     pub fewest: Option<Pair>,
 }
@@ -100,6 +103,7 @@ impl AddAssign for Counts {
         self.openings.add_all(more.openings);
         self.numbers.add_all(more.numbers);
         self.others.add_all(more.others);
+        self.causes += more.causes;
         self.fewest = self.fewest.into_iter().chain(more.fewest).min();
     }
 }
@@ -113,7 +117,13 @@ impl Display for Counts {
         write!(f, "{} openings{}; ", self.runs(), refused(&self.openings))?;
         write!(f, "{} calls with a number{}", self.numbers.all(), refused(&self.numbers))?;
         let mut others = self.others.0.iter().filter(|(_, count)| **count > 0);
-        others.try_for_each(|(name, count)| write!(f, "; {count} {name}"))
+        others.try_for_each(|(name, count)| write!(f, "; {count} {name}"))?;
+        let causes = self.causes.numbers().into_iter().filter(|(_, count)| *count > 0);
+        let causes: Vec<String> = causes.map(|(name, count)| format!("{count} {name}")).collect();
+        match causes.is_empty() {
+            true => Ok(()),
+            false => write!(f, "; causes: {}", causes.join(", ")),
+        }
     }
 }
 

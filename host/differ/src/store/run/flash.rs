@@ -62,6 +62,7 @@ pub fn reopen(flash: &Flash, book: &Book, left: &mut Lent) -> Result<Book, Strin
     let work = vec![0; again.slots.len() * PART];
     let mut lent = Lent::new(left.port, left.standing, &[0; STATE], &work);
     let number = lent.open(&flash.bytes)?;
+    left.causes += lent.causes;
     if number != 0 {
         return Err(format!("\n  the flash reopens with {number}"));
     }
