@@ -26,6 +26,15 @@ use Rattle.cause.specs.declared.Cause.the-variants.{Short, Empty, Signat
 use Rattle.cause.specs.Cause.{stopCause, walkCause, headCause, bankCause, causeOf, isFault, isInvalid}
 use Rattle.cause.proofs.Facts.{not-erased}
 
+-- of the stops, those that spoil a bank are faults
+stop-fault : (c : Stop) (at n : ℕ) → isFault (stopCause c at n) ≡ spoils c
+stop-fault stop.Blank at n = refl
+stop-fault stop.Start at n = refl
+stop-fault stop.Length at n = refl
+stop-fault stop.End at n = refl
+stop-fault stop.Name at n = refl
+stop-fault stop.Crc at n = refl
+
 module _ (s : List ℕ) where
   head-cause : (o : Head) → readHeader s ≡ o → headCause s o ≡ bankCause s
   unfolding bankCause
@@ -52,14 +61,6 @@ module _ (s : List ℕ) where
     pub good-cause : walkCause w ≡ bankCause s
     unfolding headCause
     good-cause = ap walkCause q ∙ head-cause (head.Good h) e
-
-    stop-fault : (c : Stop) (at n : ℕ) → isFault (stopCause c at n) ≡ spoils c
-    stop-fault stop.Blank at n = refl
-    stop-fault stop.Start at n = refl
-    stop-fault stop.Length at n = refl
-    stop-fault stop.End at n = refl
-    stop-fault stop.Name at n = refl
-    stop-fault stop.Crc at n = refl
 
     good-fault : isFault (bankCause s) ≡ isInvalid (answer (readBank s))
     good-fault = ap isFault (sym good-cause) ∙ stop-fault (w .stop) (w .at) (w .count) ∙ go (spoils (w .stop)) refl

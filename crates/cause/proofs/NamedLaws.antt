@@ -63,15 +63,15 @@ module _ (s : List ℕ) (l : bankSize ≤ length s) {g : StoreHeader} (d : Heade
           subst (λ (n : ℕ). Begins s (index + 1) (at + n)) (sym (stands-size (drop at s) r k))
           (behind-record b (past-record s index at l d (omega (arith, size-is)) r k))
 
-module _ (s : List ℕ) (l : bankSize ≤ length s) where
-  not-ff : allFF s ≡ false → s ≡ replicate (length s) 0xFF → ⊥
-  not-ff a e = let t : allFF s ≡ true = ap allFF e ∙ all-ff-replicate (length s) in clash cc
+not-ff : (s : List ℕ) → allFF s ≡ false → s ≡ replicate (length s) 0xFF → ⊥
+not-ff s a e = let t : allFF s ≡ true = ap allFF e ∙ all-ff-replicate (length s) in clash cc
 
+module _ (s : List ℕ) (l : bankSize ≤ length s) where
   head-named : (o : Head) → HeadShows s o → Named s (headCause s o)
   unfolding headCause bankSize
   head-named head.Signature h =
       by-test (Named s) (allFF s) Empty Signature (λ a. named-at Empty behind-header (all-ff-is s a) (past-short s 0 24 l))
-      (λ a. named-at Signature behind-header (h (omega arith)) (past-empty s 0 24 l (not-ff a)))
+      (λ a. named-at Signature behind-header (h (omega arith)) (past-empty s 0 24 l (not-ff s a)))
   head-named head.Version h = named-at Version behind-header (h .1) (past-signature s 0 24 l (h .0))
   head-named head.Size h = named-at Size behind-header (h .2) (past-version s 0 24 l (h .0) (h .1))
   head-named (head.Good g) h = walk-named s l h 24 0 behind-header

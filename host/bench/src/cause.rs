@@ -10,15 +10,12 @@ use crate::trusting::rust_parse;
 
 pub fn run(report: &mut Report) {
     report.say("one bank, call after call; the Rust says no more than whether it is Valid");
-    let name = "cause, full of small records";
-    let contenders: &mut [Contender] = &mut [
+    let contenders: [Contender; 3] = [
         ("Rust parse", &mut rust_parse),
         ("port cause", &mut port_cause),
         ("port parse", &mut port_parse),
     ];
-    let figures = report.table(name, contenders, &bank(), Some(0.6));
-    let name = format!("{name}, over the port's parse");
-    report.bar(&name, &figures[1], &figures[2], Some(1.2));
+    report.table_over_both("cause, full of small records", contenders, &bank(), [0.6, 1.2]);
 }
 
 fn bank() -> Vec<u8> {

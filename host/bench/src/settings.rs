@@ -9,15 +9,13 @@ use crate::partition;
 
 pub fn run(report: &mut Report) {
     report.say("two banks, call after call; the Rust reads both in one image");
-    let name = "same settings, full of small records";
-    let contenders: &mut [Contender] = &mut [
+    let contenders: [Contender; 3] = [
         ("Rust parse, then every field compared", &mut rust_same),
         ("port", &mut port_same),
         ("port parse, of each bank", &mut port_parse),
     ];
-    let figures = report.table(name, contenders, &banks(), Some(0.6));
-    let name = format!("{name}, over the port's parse of each");
-    report.bar(&name, &figures[1], &figures[2], Some(1.3));
+    let name = "same settings, full of small records";
+    report.table_over_both(name, contenders, &banks(), [0.6, 1.3]);
 }
 
 /// The second has 255 in its reserved and closing bytes.
