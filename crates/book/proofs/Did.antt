@@ -11,11 +11,12 @@ use Rattle.bank.specs.Bank.{Bank, Slot, empty, invalid, valid, bankSize, output
 use Rattle.bank.specs.Totals.{total, liveTotal}
 use Rattle.bank.proofs.WalkLaws.{by-test}
 use Rattle.records.specs.declared.edit.Found.{Found}
+use Rattle.records.specs.declared.figures.Figures.{Figures}
 use Rattle.book.specs.Edit.{Edit, insert, remove, editedBy, grows, refusedEdit}
 use Rattle.book.specs.Book.{partSize, Book, activeSlot, withRecords}
 use Rattle.book.specs.Commit.{Judged, due, judgeBank, nextBank, nextSlot, request, anyOverfull}
 use Rattle.book.specs.Call as call
-use Rattle.book.specs.Call.{Call, edit, lookup, fetch, commit, wholeImage, Answer, looked, handed, committed, joined, number, refusal, Outcome, stay, stayWith, change, bySlot, editAs, editBank, lookupBank, fetchBank, moveIn, commitAs, commitBank, commitTo, imageTo, step}
+use Rattle.book.specs.Call.{Call, edit, lookup, fetch, figures, commit, wholeImage, Answer, looked, handed, summed, committed, joined, number, refusal, Outcome, stay, stayWith, change, bySlot, editAs, editBank, lookupBank, fetchBank, figuresBank, moveIn, commitAs, commitBank, commitTo, imageTo, step}
 use Rattle.book.proofs.JudgeLaws as judge-laws
 use Rattle.book.proofs.JudgeLaws.{Number, above-6, Decided, decided-bank, not-due, is-due}
 
@@ -24,6 +25,7 @@ abbrev pub Reads : Call → Answer → Type 0
 Reads (edit e) a = ⊥
 Reads (lookup key typ) a = (f : Option Found) × (a ≡ looked 0 f)
 Reads (fetch key typ) a = a ≡ handed
+Reads figures a = (f : Figures) × (a ≡ summed 0 f)
 Reads (commit room) a = ⊥
 Reads (wholeImage room) a = (long : ℕ) × (a ≡ joined 0 long)
 
@@ -94,10 +96,11 @@ module _ (b : Book) where
         go j (judge-laws.moves d l) = move-bank (record { bank = k; was = e; due = is-due k d; left = l })
 
 pub did : (b : Book) (c : Call) → Did b c (step b c)
-unfolding step lookupBank fetchBank commitTo imageTo
+unfolding step lookupBank fetchBank figuresBank commitTo imageTo
 did b (edit e) = by-bank b (edit e) _ (edit-bank b e) (activeSlot b) refl
 did b (lookup key typ) = by-bank b (lookup key typ) _ (λ k e. reads {c = lookup key typ} _ [] (_, refl)) (activeSlot b) refl
 did b (fetch key typ) = by-bank b (fetch key typ) _ (λ k e. reads {c = fetch key typ} handed _ refl) (activeSlot b) refl
+did b figures = by-bank b figures _ (λ k e. reads {c = figures} _ [] (_, refl)) (activeSlot b) refl
 did b (commit room) =
     by-test (Did b (commit room)) (ltb room bankSize) _ _ (λ t. refuses 5 five) (λ t. by-bank b (commit room) _ (commit-bank b room) (activeSlot b) refl)
 did b (wholeImage room) =
@@ -111,6 +114,7 @@ pub read-number : (c : Call) (a : Answer) → Reads c a → number a ≡ 0
 read-number (edit e) a r = absurd r
 read-number (lookup key typ) a r = ap number (r .1)
 read-number (fetch key typ) a r = ap number r
+read-number figures a r = ap number (r .1)
 read-number (commit room) a r = absurd r
 read-number (wholeImage room) a r = ap number (r .1)
 
@@ -119,5 +123,6 @@ pub refusal-number : (c : Call) (k n : ℕ) → k ≢ n → 0 ≢ n → number (
 refusal-number (edit e) k n h z = h
 refusal-number (lookup key typ) k n h z = h
 refusal-number (fetch key typ) k n h z = z
+refusal-number figures k n h z = h
 refusal-number (commit room) k n h z = h
 refusal-number (wholeImage room) k n h z = h

@@ -39,7 +39,7 @@ decided h system common d =
 
 pub decided-bank : (k : Bank) → Decided (k .header) (due k) (judgeBank k)
 unfolding judgeBank
-decided-bank k = decided (k .header) (systemUsed k) (commonUsed k) (due k)
+decided-bank k = decided (k .header) (systemUsed (k .records)) (commonUsed (k .records)) (due k)
 
 pub not-due : (k : Bank) → due k ≡ false → total k ≤ k .usable
 unfolding due

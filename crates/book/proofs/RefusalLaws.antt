@@ -5,7 +5,7 @@ use mathlib.Core.Path.{_≡_, refl, sym, ap}
 use mathlib.Core.Logic.{_≢_}
 use native.Mathlib.Omega.{arith}
 use Rattle.book.specs.Book.{Book}
-use Rattle.book.specs.Call.{Call, edit, lookup, fetch, commit, wholeImage, number, refusal, Outcome, stay, step}
+use Rattle.book.specs.Call.{Call, edit, lookup, fetch, figures, commit, wholeImage, number, refusal, Outcome, stay, step}
 use Rattle.book.proofs.Did.{refuses, reads, edits, writes, moves, overflows, Did, did, read-number, refusal-number}
 
 -- the refusal's own number, or none
@@ -13,6 +13,7 @@ pub refusal-again : (c : Call) (k : ℕ) → refusal c (number (refusal c k)) �
 refusal-again (edit e) k = refl
 refusal-again (lookup key typ) k = refl
 refusal-again (fetch key typ) k = refl
+refusal-again figures k = refl
 refusal-again (commit room) k = refl
 refusal-again (wholeImage room) k = refl
 

@@ -16,7 +16,7 @@ use Rattle.records.proofs.RecordLists.{fine-select, sizes-select}
 use Rattle.book.specs.Edit.{editedBy, grows}
 use Rattle.book.specs.Book.{partSize, FineSlot, Book, FineBook, activeSlot, withActive, withRecords}
 use Rattle.book.specs.Commit.{moved, nextBank, movedBook}
-use Rattle.book.specs.Call.{Call, edit, lookup, fetch, commit, wholeImage, ByteCall, Answer, number, Outcome, step}
+use Rattle.book.specs.Call.{Call, edit, lookup, fetch, figures, commit, wholeImage, ByteCall, Answer, number, Outcome, step}
 use Rattle.book.proofs.EditedRecords.{sizes-edited, fine-edited}
 use Rattle.book.proofs.BookLaws.{part-size, fine-at, fine-set, fine-with}
 use Rattle.book.proofs.Did.{refuses, reads, edits, writes, moves, overflows, Did, did}
@@ -101,6 +101,7 @@ abbrev pub Follows : Call → Answer → Type 0
 Follows (edit e) a = Unit {0}
 Follows (lookup key typ) a = Unit {0}
 Follows (fetch key typ) a = Unit {0}
+Follows figures a = Unit {0}
 Follows (commit room) a = number a ≢ 12
 Follows (wholeImage room) a = Unit {0}
 
@@ -120,5 +121,6 @@ pub follows : (c : Call) (a : Answer) → number a ≢ 12 → Follows c a
 follows (edit e) a h = tt
 follows (lookup key typ) a h = tt
 follows (fetch key typ) a h = tt
+follows figures a h = tt
 follows (commit room) a h = h
 follows (wholeImage room) a h = tt

@@ -1,4 +1,4 @@
--- Calls as data, and what each does to the book and answers (01, 'A commit, from the entry down', 'Edits and lookups', 'Refusals').
+-- Calls as data, and what each does to the book and answers (01, 'A commit, from the entry down', 'Edits and lookups', 'Refusals'; 02, N3).
 use Prim.Native.Nat.{ℕ, zero, suc, _+_, _*_}
 use mathlib.Core.List.{List, []}
 use mathlib.Core.Bool.{cond}
@@ -10,16 +10,20 @@ use Rattle.bank.specs.declared.variable.VarType.{VarType}
 use Rattle.bank.specs.Bank.{Bank, Slot, empty, invalid, valid, bankSize, output}
 use Rattle.bank.specs.Totals.{liveTotal}
 use Rattle.records.specs.declared.edit.Found.{Found}
+use Rattle.records.specs.declared.figures.Figures.{Figures}
 use Rattle.records.specs.Match.{foundIn, valueIn}
+use Rattle.records.specs.Figures.{figuresOf, noFigures}
 use Rattle.book.specs.Edit.{Edit, ByteEdit, editedBy, refusedEdit}
 use Rattle.book.specs.Book.{partSize, Book, activeSlot, withActive, withRecords}
 use Rattle.book.specs.Commit.{Judged, refuse, inPlace, move, judgeBank, moved, nextBank, nextSlot, request, movedBook, imageOutput, anyOverfull}
 
--- lookup answers the place, fetch the bytes themselves; of a lent output a commit and a whole image see the length
+-- lookup answers the place, fetch the bytes themselves, figures what the active bank's records come to; of a lent output a commit and a whole
+-- image see the length
 pub data Call : Type 0 where
   edit : Edit → Call
   lookup : List ℕ → VarType → Call
   fetch : List ℕ → VarType → Call
+  figures : Call
   commit : ℕ → Call
   wholeImage : ℕ → Call
 
@@ -28,15 +32,18 @@ abbrev pub ByteCall : Call → Type 0
 ByteCall (edit e) = ByteEdit e
 ByteCall (lookup key typ) = Bytes key
 ByteCall (fetch key typ) = Bytes key
+ByteCall figures = Unit {0}
 ByteCall (commit room) = Unit {0}
 ByteCall (wholeImage room) = Unit {0}
 
--- a refusal's number, 0 where accepted; a lookup that is accepted finds something or nothing; bytes that are fetched have no number; a
--- commit answers an optional erase request's offset, the write's offset and its length; a whole image its length
+-- a refusal's number, 0 where accepted; a lookup that is accepted finds something or nothing; bytes that are fetched have no number; figures
+-- are zeros where they are refused; a commit answers an optional erase request's offset, the write's offset and its length; a whole image its
+-- length
 pub data Answer : Type 0 where
   edited : ℕ → Answer
   looked : ℕ → Option Found → Answer
   handed : Answer
+  summed : ℕ → Figures → Answer
   committed : ℕ → Option ℕ → ℕ → ℕ → Answer
   joined : ℕ → ℕ → Answer
 
@@ -44,6 +51,7 @@ abbrev pub number : Answer → ℕ
 number (edited k) = k
 number (looked k f) = k
 number handed = 0
+number (summed k f) = k
 number (committed k e offset long) = k
 number (joined k long) = k
 
@@ -52,6 +60,7 @@ abbrev pub erase : Answer → Option ℕ
 erase (edited k) = none
 erase (looked k f) = none
 erase handed = none
+erase (summed k f) = none
 erase (committed k e offset long) = e
 erase (joined k long) = none
 
@@ -60,6 +69,7 @@ abbrev pub refusal : Call → ℕ → Answer
 refusal (edit e) k = edited k
 refusal (lookup key typ) k = looked k none
 refusal (fetch key typ) k = handed
+refusal figures k = summed k noFigures
 refusal (commit room) k = committed k none 0 0
 refusal (wholeImage room) k = joined k 0
 
@@ -100,6 +110,10 @@ lookupBank b key typ k = stay b (looked 0 (foundIn key typ (b .active * partSize
 
 unfoldable pub fetchBank : Book → List ℕ → VarType → Bank → Outcome
 fetchBank b key typ k = stayWith b handed (valueIn key typ (k .records))
+
+-- both sums and the number of records, dead ones too
+unfoldable pub figuresBank : Book → Bank → Outcome
+figuresBank b k = stay b (summed 0 (figuresOf (k .records)))
 
 -- a commit that moves, and makes this erase request
 abbrev pub moves : Book → Bank → Option ℕ → Outcome
@@ -142,5 +156,6 @@ unfoldable pub step : Book → Call → Outcome
 step b (edit e) = bySlot b (edit e) (editBank b e) (activeSlot b)
 step b (lookup key typ) = bySlot b (lookup key typ) (lookupBank b key typ) (activeSlot b)
 step b (fetch key typ) = bySlot b (fetch key typ) (fetchBank b key typ) (activeSlot b)
+step b figures = bySlot b figures (figuresBank b) (activeSlot b)
 step b (commit room) = commitTo b room
 step b (wholeImage room) = imageTo b room

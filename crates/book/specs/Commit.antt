@@ -30,7 +30,7 @@ unfoldable pub due : Bank → Bool
 due k = ltb (k .usable) (total k)
 
 unfoldable pub judgeBank : Bank → Judged
-judgeBank k = judge (k .header) (systemUsed k) (commonUsed k) (due k)
+judgeBank k = judge (k .header) (systemUsed (k .records)) (commonUsed (k .records)) (due k)
 
 abbrev pub raised : StoreHeader → StoreHeader
 raised h =

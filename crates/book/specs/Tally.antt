@@ -1,7 +1,7 @@
 -- The erase tally (01, 'A commit, from the entry down'): erase requests since opening, stopping at 4,294,967,295.
 use Prim.Native.Nat.{ℕ, _+_, min}
 use mathlib.Core.Option.{Option, none, some}
-use Rattle.book.specs.Call.{Call, edit, lookup, fetch, commit, wholeImage, Answer, erase}
+use Rattle.book.specs.Call.{Call, edit, lookup, fetch, figures, commit, wholeImage, Answer, erase}
 
 abbrev pub Tally : Type 0
 Tally = ℕ
@@ -16,5 +16,6 @@ abbrev pub tallied : Call → Answer → Tally → Tally
 tallied (edit e) a t = t
 tallied (lookup key typ) a t = t
 tallied (fetch key typ) a t = t
+tallied figures a t = t
 tallied (commit room) a t = counted (erase a) t
 tallied (wholeImage room) a t = t

@@ -14,12 +14,11 @@ use Rattle.bank.specs.Record.{Record, sizeOf, sizes, deletedState, varHeaderByt
 use Rattle.bank.specs.Bank.{Slot, empty, invalid, valid, bankSize, padded, bankOf}
 use Rattle.bank.specs.Read.{found, after, walkTurn, walk, walkFrom, usableAt, slotOf, erasedSlot, afterHead, readBank}
 use Rattle.bank.specs.Totals.{select, total, liveTotal, liveOf}
-use Rattle.records.specs.Figures.{figuresBy, plus, figuresOf}
 use Rattle.book.specs.Book.{partSize, Book}
 use Rattle.book.specs.Opening.{readSlots, activeFrom, anyValid, Opened, opened, refused, opening}
 use Rattle.book.specs.Edit.{plain, insert, remove, editedBy, grows, refusedEdit}
 use Rattle.book.specs.Commit.{judge, due, judgeBank, request}
-use Rattle.book.specs.Call.{edit, commit, Answer, edited, looked, handed, committed, joined, number, bySlot, editAs, editBank, moveIn, commitAs, commitBank, commitTo, step}
+use Rattle.book.specs.Call.{edit, commit, Answer, edited, looked, handed, summed, committed, joined, number, bySlot, editAs, editBank, moveIn, commitAs, commitBank, commitTo, step}
 
 pub record Row : Type 0 where
   pub got : List ℕ
@@ -49,10 +48,10 @@ abbrev blank : ℕ → List ℕ
 blank generation = padded 65536 (headerBytes (header 65536 generation))
 
 -- a slot as numbers: of a Valid one total, usable and how many records
-unfoldable pub figures : Slot → List ℕ
-figures empty = []
-figures invalid = []
-figures (valid b) = total b ∷ b .usable ∷ length (b .records) ∷ []
+unfoldable pub totals : Slot → List ℕ
+totals empty = []
+totals invalid = []
+totals (valid b) = total b ∷ b .usable ∷ length (b .records) ∷ []
 
 -- an opening as numbers: 0, n and active, or its refusal
 unfoldable pub begins : Opened → List ℕ
@@ -80,6 +79,7 @@ unfoldable pub writes : Answer → List ℕ
 writes (edited k) = []
 writes (looked k f) = []
 writes handed = []
+writes (summed k f) = []
 writes (committed k e offset long) = k ∷ offset ∷ []
 writes (joined k long) = []
 
@@ -92,8 +92,8 @@ table =
     ∷ (sizeOf (liveRecord [] []) ∷ [] is 37 ∷ [])
     ∷ (sizeOf (liveRecord (0x61 ∷ []) []) ∷ [] is 38 ∷ [])
     -- P4 size 60: no record is looked at. P5 size 61: one of 37 fits
-    ∷ (figures (readBank (bank 60 (recordBytes (liveRecord [] [])))) is 24 ∷ 60 ∷ 0 ∷ [])
-    ∷ (figures (readBank (bank 61 (recordBytes (liveRecord [] [])))) is 61 ∷ 61 ∷ 1 ∷ [])
+    ∷ (totals (readBank (bank 60 (recordBytes (liveRecord [] [])))) is 24 ∷ 60 ∷ 0 ∷ [])
+    ∷ (totals (readBank (bank 61 (recordBytes (liveRecord [] [])))) is 61 ∷ 61 ∷ 1 ∷ [])
     -- P6 generations 3, 5, 5: active 1
     ∷ (begins (opening (blank 3 ++ (blank 5 ++ blank 5)) 393216) is 0 ∷ 3 ∷ 1 ∷ [])
     -- P7 Invalid, then Valid with 0: opens, edits give 7
@@ -108,8 +108,8 @@ table =
     ∷ (writes (step (filled 65536) (commit 65536) .answer) is 0 ∷ 0 ∷ [])
     ∷ (writes (step (filled 65537) (commit 65536) .answer) is 0 ∷ 65536 ∷ [])
     -- P11 36 zero bytes, then 0xFF: blank. P12 36 bytes 0xFF, then 0: usable = total + 36
-    ∷ (figures (readBank (bank 65536 (replicate 36 0))) is 24 ∷ 65536 ∷ 0 ∷ [])
-    ∷ (figures (readBank (bank 65536 (replicate 36 255 ++ (0 ∷ [])))) is 24 ∷ (24 + 36) ∷ 0 ∷ [])
+    ∷ (totals (readBank (bank 65536 (replicate 36 0))) is 24 ∷ 65536 ∷ 0 ∷ [])
+    ∷ (totals (readBank (bank 65536 (replicate 36 255 ++ (0 ∷ [])))) is 24 ∷ (24 + 36) ∷ 0 ∷ [])
     ∷ []
 
 abbrev pub Computed : List Row → Type 0
@@ -117,5 +117,5 @@ Computed [] = Unit {0}
 Computed (r ∷ rs) = (r .got ≡ r .want) × Computed rs
 
 pub cases : Computed table
-unfolding table figures begins writes afterwards opening readSlots activeFrom anyValid bankSize partSize step bySlot editBank editAs refusedEdit editedBy grows moveIn commitAs commitBank commitTo judgeBank judge due request select liveTotal liveOf figuresOf figuresBy plus record-specs.live crc32Of byteSteps byteStep bitSteps bitStep polyIf allFF allBlank countFF eqBytes u16At u32At le32 headerBytes headerOf signed readHeader sizeOf sizes deletedState varHeaderBytes recordBytes recordOf padded found after walkTurn walk walkFrom usableAt slotOf erasedSlot afterHead readBank total
+unfolding table totals begins writes afterwards opening readSlots activeFrom anyValid bankSize partSize step bySlot editBank editAs refusedEdit editedBy grows moveIn commitAs commitBank commitTo judgeBank judge due request select liveTotal liveOf record-specs.live crc32Of byteSteps byteStep bitSteps bitStep polyIf allFF allBlank countFF eqBytes u16At u32At le32 headerBytes headerOf signed readHeader sizeOf sizes deletedState varHeaderBytes recordBytes recordOf padded found after walkTurn walk walkFrom usableAt slotOf erasedSlot afterHead readBank total
 cases = (refl, (refl, (refl, (refl, (refl, (refl, (refl, (refl, (refl, (refl, (refl, (refl, (refl, (refl, (refl, (refl, tt))))))))))))))))

@@ -30,6 +30,7 @@ use Rattle.nvram.specs.Layout.{view}
 use Rattle.nvram.specs.Soundness.{slotSummary, activeSummary, soundness}
 use Rattle.nvram.specs.Ready.{activeEntry}
 use Rattle.nvram.specs.Contract.{Does}
+use Rattle.nvram.proofs.SoundLaws.{active-summary}
 use Rattle.nvram.proofs.CallLaws.{does, by-7, by-valid}
 use Rattle.nvram.proofs.ActiveLaws.{Sound, book, viewed, state-is, work-is, fine, active-is, n-is, entry-is, does-refuse, bank, bank-is, bank-fine, total-is, usable-is}
 use Rattle.nvram.proofs.PlaceLaws.{after, part-here, bank-out}
@@ -40,11 +41,9 @@ use Rattle.commit.specs.Active.{ActiveHas, Active, MoveDue, Used, Commit
 -- what the check answers of the active bank
 pub checked-active : (s : Nvram) (w : List ℕ) (r : Soundness) → r ≡ soundness (activeSummary true) (view s w)
     → ActiveHas s w (λ (k : Bank). (r .bank .header ≡ k .header) × (r .bank .used ≡ figuresOf (k .records)))
-unfolding soundness activeSummary slotSummary recordsFigures
+unfolding slotSummary recordsFigures
 checked-active s w r e b k p q =
-    let x : r .bank ≡ slotSummary true (valid k) =
-    ap (λ (y : Soundness). y .bank) (e ∙ ap (soundness (activeSummary true)) p) ∙ ap (slotSummary true) q in
-    (ap (λ (y : Summary). y .header) x, ap (λ (y : Summary). y .used) x)
+    let x = active-summary s w true r e b k p q in (ap (λ (y : Summary). y .header) x, ap (λ (y : Summary). y .used) x)
 
 -- the active part of a sound state whose active slot is Valid
 module _ {s : Nvram} {w : List ℕ} (g : Sound s w) (v : activeEntry s .kind ≡ Valid) where
@@ -102,7 +101,7 @@ module _ {s : Nvram} {w : List ℕ} {h : StoreHeader} (a : ActiveKnown s w h) wh
   pub judged : (f : Figures) (d : Bool) (j : Judged) → Used s w f → d ≡ ltb (activeEntry s .usable) (activeEntry s .total)
       → j ≡ judge h (f .system) (f .common) d
       → j ≡ judgeBank here
-  unfolding judgeBank due total
+  unfolding judgeBank figuresOf due total
   judged f d j u q k =
       let e = u b here (viewed sound) (bank-is sound (a .active .kind)) in
       let r : d ≡ ltb (here .usable) (24 + sizes (here .records)) = q ∙ ap₂ ltb (usable-is sound (a .active .kind)) (total-is sound (a .active .kind)) in

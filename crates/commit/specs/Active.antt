@@ -37,7 +37,7 @@ pub record Active (s : Nvram) (w : List ℕ) (h : StoreHeader) : Type 0 where
   pub kind : activeEntry s .kind ≡ Valid
   pub header : ActiveHas s w (λ (k : Bank). h ≡ k .header)
 
--- what the active bank's live records come to, by section
+-- what the active bank's records come to
 abbrev pub Used : Nvram → List ℕ → Figures → Type 0
 Used s w f = ActiveHas s w (λ (k : Bank). f ≡ figuresOf (k .records))
 

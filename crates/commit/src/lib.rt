@@ -80,7 +80,7 @@ fn move_on(
     write(after, work, output, header.size as usize, erase)
 }
 
-// A commit of the active bank, which is Valid, of this header and these sums.
+// A commit of the active bank, which is Valid, of this header and these figures.
 fn commit_active(
     state: Nvram,
     work: &mut [u8],

@@ -13,7 +13,7 @@ use Rattle.bank.specs.declared.variable.VarType.{VarType}
 use Rattle.bank.specs.Bank.{Slot, empty, invalid, valid}
 use Rattle.book.specs.Book.{Book, FineBook, FineSlots}
 use Rattle.book.specs.Opening.{Opened, opening}
-use Rattle.book.specs.Call.{Call, edit, lookup, fetch, commit, wholeImage, ByteCall, Answer, number, erase, Outcome, step}
+use Rattle.book.specs.Call.{Call, edit, lookup, fetch, figures, commit, wholeImage, ByteCall, Answer, number, erase, Outcome, step}
 use Rattle.book.specs.Tally.{Tally, counted, tallied}
 use Rattle.book.proofs.Did.{refuses, reads, Did, did}
 use Rattle.book.proofs.BookLaws.{part-size}
@@ -69,6 +69,7 @@ tallied-fits : (c : Call) (a : Answer) (t : Tally) → t < 4294967296 → tallie
 tallied-fits (edit e) a t h = h
 tallied-fits (lookup key typ) a t h = h
 tallied-fits (fetch key typ) a t h = h
+tallied-fits figures a t h = h
 tallied-fits (commit room) a t h = counted-fits (erase a) t h
 tallied-fits (wholeImage room) a t h = h
 
@@ -96,6 +97,7 @@ not-12 : (b : Book) (c : Call) (x o : List ℕ) (r : ℕ) (q o′ : List ℕ) �
 not-12 b (edit e) x o r q o′ t h p = h (t .0 ∙ p)
 not-12 b (lookup key typ) x o r q o′ t h p = h (t .0 ∙ p)
 not-12 b (fetch key typ) x o r q o′ t h p = absurd (omega (arith, fetch-number b key typ (step b (fetch key typ)) (did b (fetch key typ))))
+not-12 b figures x o r q o′ t h p = h (t .0 ∙ p)
 not-12 b (commit room) x o r q o′ t h p = h (t .returned ∙ p)
 not-12 b (wholeImage room) x o r q o′ t h p = h (t .returned ∙ p)
 

@@ -5,7 +5,7 @@ use mathlib.Core.Logic.{_≢_}
 use mathlib.Core.List.{List, [], _∷_}
 use mathlib.Core.Option.{some}
 use Rattle.crc32.specs.Crc32.{Bytes}
-use Rattle.book.specs.Call.{Call, edit, lookup, fetch, commit, wholeImage, ByteCall}
+use Rattle.book.specs.Call.{Call, edit, lookup, fetch, figures, commit, wholeImage, ByteCall}
 use Rattle.nvram.specs.declared.state.Nvram.{Nvram}
 use Rattle.run.specs.Run as run
 use Rattle.run.specs.Demand.{Demand3}
@@ -34,6 +34,7 @@ abbrev pub refusedBy : Call → ℕ → ℕ
 refusedBy (edit e) r = r
 refusedBy (lookup key typ) r = r
 refusedBy (fetch key typ) r = 0
+refusedBy figures r = r
 refusedBy (commit room) r = r
 refusedBy (wholeImage room) r = r
 

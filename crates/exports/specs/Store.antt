@@ -9,7 +9,7 @@ use lib.Dec.{eqb, leb}
 use Rattle.buffers.specs.Bytes.{onto}
 use Rattle.bank.specs.declared.variable.VarType.{VarType}
 use Rattle.bank.specs.declared.variable.VarType.the-variants.{Common, System}
-use Rattle.book.specs.Call.{Call, edit, lookup, fetch, commit, wholeImage, Answer, edited, looked, handed, committed, joined, number, refusal}
+use Rattle.book.specs.Call.{Call, edit, lookup, fetch, figures, commit, wholeImage, Answer, edited, looked, handed, summed, committed, joined, number, refusal}
 use Rattle.book.specs.Opening.{opening}
 use Rattle.nvram.specs.declared.state.Nvram.{Nvram}
 use Rattle.nvram.specs.Contract.{call, Begun, begun}
@@ -42,13 +42,14 @@ onState (some s) c bs w =
 unfoldable pub exported : Call → List ℕ → List ℕ → BytesAfter
 exported c bs w = onState (readState bs) c bs w
 
--- what is answered beside a number: of a lookup found 1 or 0, place and length; of a commit 1 or 0 for an erase request, its offset, the
--- write's offset and length; of a whole image the length
+-- what is answered beside a number: of a lookup found 1 or 0, place and length; of the figures both sums and how many records there are; of a
+-- commit 1 or 0 for an erase request, its offset, the write's offset and length; of a whole image the length
 abbrev pub fieldsOf : Answer → List ℕ
 fieldsOf (edited k) = []
 fieldsOf (looked k none) = 0 ∷ 0 ∷ 0 ∷ []
 fieldsOf (looked k (some f)) = 1 ∷ f .place ∷ f .long ∷ []
 fieldsOf handed = []
+fieldsOf (summed k f) = f .system ∷ f .common ∷ f .count ∷ []
 fieldsOf (committed k none offset long) = 0 ∷ 0 ∷ offset ∷ long ∷ []
 fieldsOf (committed k (some erase) offset long) = 1 ∷ erase ∷ offset ∷ long ∷ []
 fieldsOf (joined k long) = long ∷ []
@@ -58,6 +59,7 @@ abbrev pub lengthOf : Answer → ℕ
 lengthOf (edited k) = 0
 lengthOf (looked k f) = 0
 lengthOf handed = 0
+lengthOf (summed k f) = 0
 lengthOf (committed k e offset long) = long
 lengthOf (joined k long) = long
 
@@ -69,11 +71,13 @@ pub record Written (a : Answer) (x o : List ℕ) (r : ℕ) (q o′ : List ℕ) :
   pub rest : drop (lengthOf a) o′ ≡ drop (lengthOf a) o
 
 -- what a caller is told of an answer a and the bytes x handed back: the function returns r, answers the fields q, and leaves a lent output o
--- as o′. An edit has no fields, and neither it nor a lookup an output; a value's call returns the length, and copies as far as the output reaches
+-- as o′. An edit has no fields, and neither it, a lookup nor the figures have an output; a value's call returns the length, and copies as far
+-- as the output reaches
 abbrev pub Tells : Call → Answer → List ℕ → List ℕ → ℕ → List ℕ → List ℕ → Type 0
 Tells (edit e) a x o r q o′ = (r ≡ number a) × (q ≡ []) × (o′ ≡ o)
 Tells (lookup key typ) a x o r q o′ = (r ≡ number a) × (q ≡ fieldsOf a) × (o′ ≡ o)
 Tells (fetch key typ) a x o r q o′ = (r ≡ length x) × (q ≡ []) × (o′ ≡ onto x o)
+Tells figures a x o r q o′ = (r ≡ number a) × (q ≡ fieldsOf a) × (o′ ≡ o)
 Tells (commit room) a x o r q o′ = Written a x o r q o′
 Tells (wholeImage room) a x o r q o′ = Written a x o r q o′
 

@@ -13,7 +13,7 @@ ghost use mathlib.Core.Path.{_≡_};
 ghost use mathlib.Core.List.{[]};
 ghost use lib.ListN.{length};
 ghost use Rattle.book.specs.Edit.{plain, insert, remove};
-ghost use Rattle.book.specs.Call.{edit, lookup, fetch, commit, wholeImage, number as numberOf};
+ghost use Rattle.book.specs.Call.{edit, lookup, fetch, figures, commit, wholeImage, number as numberOf};
 ghost use Rattle.variables.specs.LookupAnswer.{lookupAnswer};
 ghost use Rattle.requests.specs.Applied.{applied};
 ghost use Rattle.exports.specs.Store.{varTypeOf, fieldsOf, Calls, ExportOpens};
@@ -139,6 +139,23 @@ pub extern "C" fn feqyondil_value(
     let value = variables::value(before, work, key, var_type(typ));
     buffers::copy(value, out);
     value.len()
+}
+
+// What the active bank's records come to: the system sum, the common sum, how many there are.
+#[no_mangle]
+pub extern "C" fn feqyondil_figures(state: &[u8], work: &[u8], out: &mut [u64; 3]) -> u32
+    ensures { λ r. ⌜ Calls figures (now (state .entry)) (now (work .entry)) [] r (now (out .exit)) (now (state .entry)) (now (work .entry)) [] ⌝ }
+{
+    let loaded = load(state);
+    if !loaded.ok {
+        *out = [0; 3];
+        return 6;
+    }
+    let before = loaded.state;
+    let answer = figures::of_active(before, work);
+    let used = answer.used;
+    *out = [used.system as u64, used.common as u64, used.count as u64];
+    answer.number
 }
 
 fn requests(answer: Applied) -> [u64; 4]

@@ -8,7 +8,7 @@ use Rattle.buffers.proofs.Laws.{clash}
 use Rattle.bank.specs.Bank.{Bank, Slot, empty, invalid, valid}
 use Rattle.records.specs.Checked.{isSome}
 use Rattle.book.specs.Book.{Book, activeSlot}
-use Rattle.book.specs.Call.{Call, edit, lookup, fetch, commit, wholeImage, Answer, refusal, Outcome, stay, bySlot, step}
+use Rattle.book.specs.Call.{Call, edit, lookup, fetch, figures, commit, wholeImage, Answer, refusal, Outcome, stay, bySlot, step}
 use Rattle.book.specs.Tally.{Tally, tallied}
 use Rattle.nvram.specs.declared.state.Kind.{Kind}
 use Rattle.nvram.specs.declared.state.Kind.the-variants.{Empty, Invalid, Valid}
@@ -42,6 +42,7 @@ pub refusal-tally : (c : Call) (k : ℕ) (t : Tally) → tallied c (refusal c k)
 refusal-tally (edit e) k t = refl
 refusal-tally (lookup key typ) k t = refl
 refusal-tally (fetch key typ) k t = refl
+refusal-tally figures k t = refl
 refusal-tally (commit room) k t = refl
 refusal-tally (wholeImage room) k t = refl
 
@@ -75,6 +76,7 @@ abbrev pub OnActive : Call → Type 0
 OnActive (edit e) = Unit {0}
 OnActive (lookup key typ) = Unit {0}
 OnActive (fetch key typ) = Unit {0}
+OnActive figures = Unit {0}
 OnActive (commit room) = ⊥
 OnActive (wholeImage room) = ⊥
 
@@ -90,6 +92,7 @@ unfolding step
 step-7 b (edit e) u h = by-7 b (edit e) _ (activeSlot b) h
 step-7 b (lookup key typ) u h = by-7 b (lookup key typ) _ (activeSlot b) h
 step-7 b (fetch key typ) u h = by-7 b (fetch key typ) _ (activeSlot b) h
+step-7 b figures u h = by-7 b figures _ (activeSlot b) h
 step-7 b (commit room) u h = absurd u
 step-7 b (wholeImage room) u h = absurd u
 

@@ -15,20 +15,21 @@ use Rattle.bank.specs.declared.header.Head.{Head}
 use Rattle.bank.specs.declared.header.Head.the-variants.{Good}
 use Rattle.bank.specs.Header.{readHeader}
 use Rattle.bank.specs.Record.{Record}
-use Rattle.bank.specs.Bank.{Slot, empty, invalid}
+use Rattle.bank.specs.Bank.{Bank, Slot, empty, invalid, valid}
 use Rattle.records.specs.declared.check.Checked.{Checked}
 use Rattle.records.specs.View.{viewRecords}
 use Rattle.records.specs.Checked.{isSome, checked, recordsFigures}
 use Rattle.records.proofs.CheckedLaws.{checked-sound}
-use Rattle.book.specs.Book.{partSize}
+use Rattle.book.specs.Book.{partSize, Book, activeSlot}
 use Rattle.nvram.specs.declared.state.Kind.{Kind}
 use Rattle.nvram.specs.declared.state.Kind.the-variants.{Empty, Invalid, Valid}
 use Rattle.nvram.specs.declared.state.Entry.{Entry}
+use Rattle.nvram.specs.declared.state.Nvram.{Nvram}
 use Rattle.nvram.specs.declared.summary.Summary.{Summary}
 use Rattle.nvram.specs.declared.summary.Soundness.{Soundness}
 use Rattle.nvram.specs.Part.{entry, slotWith, viewHead, isBlank, viewKind, viewSlot}
-use Rattle.nvram.specs.Soundness.{noSummary, slotSummary, notSound, soundness}
-use Rattle.nvram.specs.Layout.{isFree, allFree}
+use Rattle.nvram.specs.Soundness.{noSummary, slotSummary, activeSummary, notSound, soundness}
+use Rattle.nvram.specs.Layout.{isFree, allFree, view}
 
 -- what it answers
 module _ {A : Type 0} (f : A → Summary) where
@@ -40,6 +41,14 @@ module _ {A : Type 0} (f : A → Summary) where
   unfolding soundness
   soundness-sound r none e = ap (λ (x : Soundness). x .sound) e
   soundness-sound r (some y) e = ap (λ (x : Soundness). x .sound) e
+
+-- of the active bank
+pub active-summary : (s : Nvram) (w : List ℕ) (counting : Bool) (r : Soundness) → r ≡ soundness (activeSummary counting) (view s w)
+    → (b : Book) (k : Bank) → view s w ≡ some b → activeSlot b ≡ valid k
+    → r .bank ≡ slotSummary counting (valid k)
+unfolding soundness activeSummary
+active-summary s w counting r e b k p q =
+    ap (λ (x : Soundness). x .bank) (e ∙ ap (soundness (activeSummary counting)) p) ∙ ap (slotSummary counting) q
 
 -- an entry and a part that hold nothing
 module _ (e : Entry) (p : List ℕ) where

@@ -1,5 +1,5 @@
 -- What the check for refusal 6 answers (01, 'Refusals from the state'): whether there is what it looks for, and of a bank there the header
--- and what its live records come to by section, if that is to be counted (01, 'A commit, from the entry down').
+-- and what its records come to, if they are to be counted (01, 'A commit, from the entry down'; 02, N3).
 use Prim.Native.Nat.{ℕ}
 use mathlib.Core.Bool.{Bool, true, false}
 use mathlib.Core.List.{List}

@@ -1,5 +1,5 @@
-// Refusal 6: whether a state and a work area are those of some book. The check hands on the active bank's header and counts its live records
-// as it passes them, for a commit, which would else read them again.
+// Refusal 6: whether a state and a work area are those of some book. The check hands on the active bank's header and what its records come to,
+// added up as it passes them, for a commit and for the figures, which would else read them again.
 use super::state::Entry;
 use super::state::Kind;
 use super::state::Nvram;

@@ -5,7 +5,7 @@ ghost use mathlib.Core.Path.{_≡_};
 ghost use mathlib.Core.Bool.{cond};
 ghost use Rattle.nvram.specs.Soundness.{noSummary, notSound};
 
-// A Valid bank's header and what its live records come to by section; zeros for any other slot, and no sums where none were to be counted.
+// A Valid bank's header and what its records come to; zeros for any other slot, and for records that were not to be counted.
 pub struct Summary {
     pub header: StoreHeader,
     pub used: Figures,

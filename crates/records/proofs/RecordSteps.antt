@@ -83,14 +83,14 @@ module _ (s : List ℕ) (at : ℕ) where
     pub next-open : (getD s (value - 1) 0 ≡ 0 → ⊥) → Stop ≡ nextAfter at s
     next-open f = no-next (λ k. f (closing-is ∙ k .closed))
 
-    module _ (sum : ℕ) (summed : sum ≡ crc32Of (take (end - value) (drop value s))) where
+    module _ (sum : ℕ) (summed : sum ≡ crc32Of (take (end - value) (drop value s))) (stored : VarHeader) (read : stored ≡ parsedHeader x) where
       sum-is : sum ≡ crc32Of (take (valueAt x) (drop (36 + nameAt x) x))
       sum-is = summed ∙ ap crc32Of bytes-are
 
-      pub next-spoilt : (h .crc ≡ sum → ⊥) → Stop ≡ nextAfter at s
-      next-spoilt f = no-next (λ k. f (crc-is x long h e ∙ k .stands .summed ∙ sym sum-is))
+      pub next-spoilt : (stored .crc ≡ sum → ⊥) → Stop ≡ nextAfter at s
+      next-spoilt f = no-next (λ k. f (crc-is x long stored read ∙ k .stands .summed ∙ sym sum-is))
 
-      pub next-end : u16At x 0 ≡ 0x55AA → getD x 3 0 ≡ 0 → 1 ≤ h .«name_size» → end ≤ length s → getD s (value - 1) 0 ≡ 0 → h .crc ≡ sum
+      pub next-end : u16At x 0 ≡ 0x55AA → getD x 3 0 ≡ 0 → 1 ≤ h .«name_size» → end ≤ length s → getD s (value - 1) 0 ≡ 0 → stored .crc ≡ sum
           → Onward end ≡ nextAfter at s
       next-end starts reserved named ends closed f =
           next
@@ -101,7 +101,7 @@ module _ (s : List ℕ) (at : ℕ) where
                   starts = starts;
                   ends = omega (arith, name-size, data-size, room);
                   named = λ z. omega (arith, name-size);
-                  summed = sym (crc-is x long h e) ∙ f ∙ sum-is;
+                  summed = sym (crc-is x long stored read) ∙ f ∙ sum-is;
                 };
             reserved = reserved;
             closed = sym closing-is ∙ closed;

@@ -1,5 +1,5 @@
--- What the check for refusal 6 answers (01, 'Refusals from the state'): whether there is what it looks for, and what live records come to
--- there by section, if that is to be counted (01, 'A commit, from the entry down').
+-- What the check for refusal 6 answers (01, 'Refusals from the state'): whether there is what it looks for, and what the records come to there,
+-- if they are to be counted (01, 'A commit, from the entry down'; 02, N3).
 use mathlib.Core.List.{List}
 use mathlib.Core.Bool.{Bool, true, false, cond}
 use mathlib.Core.Option.{Option, none, some}

@@ -11,7 +11,7 @@ ghost use Rattle.records.specs.View.{viewRecords};
 ghost use Rattle.records.specs.Checked.{checked, unsound, recordsFigures};
 ghost use Rattle.records.specs.Records.{nextAfter};
 
-// What a check answers: whether all is sound, and what live records come to; nothing where it is not, or where none were to be counted.
+// What a check answers: whether all is sound, and what the records come to; nothing where it is not, or where none were to be counted.
 pub struct Checked {
     pub sound: bool,
     pub used: Figures,
@@ -59,7 +59,10 @@ fn next_record(t: &[u32; 4096], s: &[u8], at: usize) -> Next
     if s[value - 1] != 0 {
         return Next::Stop;
     }
-    if header.crc == crc32::crc32_with(t, &s[value..end]) {
+    let sum = crc32::crc32_with(t, &s[value..end]);
+    // Read after the sum, which would else be worked out with one register less.
+    let stored = VarHeader::parse(rest);
+    if stored.crc == sum {
         Next::Onward(end)
     } else {
         Next::Stop
@@ -76,7 +79,7 @@ pub fn check_records(t: &[u32; 4096], s: &[u8], counting: bool) -> Checked
     while at < s.len() {
         match next_record(t, s, at) {
             Next::Onward(end) => {
-                used = used.count(counting, &s[at..], end - at);
+                used = used.add(counting, &s[at..], end - at);
                 at = end;
             }
             Next::Stop => {

@@ -1,4 +1,5 @@
-// Live records in sum, by section: 01, 'A commit, from the entry down'.
+// What records come to: the live ones in sum, by section (01, 'A commit, from the entry down'), and how many there are, dead ones too
+// (02, N3).
 use bank::Variable;
 ghost use mathlib.Core.Path.{_≡_};
 ghost use mathlib.Core.Bool.{cond};
@@ -10,6 +11,7 @@ ghost use Rattle.records.specs.Figures.{noFigures, figuresBy, plus};
 pub struct Figures {
     pub system: usize,
     pub common: usize,
+    pub count: usize,
 }
 
 // n where the test holds, else 0.
@@ -26,19 +28,24 @@ impl Figures {
         Figures {
             system: 0,
             common: 0,
+            count: 0,
         }
     }
 
     // With the record of n bytes that begins s, if it is to be counted.
-    pub(crate) fn count(self, counting: bool, s: &[u8], n: usize) -> Figures
-        requires { ⌜ (36 ≤ length (now s)) × (self .system + n < 18446744073709551616) × (self .common + n < 18446744073709551616) ⌝ }
+    pub(crate) fn add(self, counting: bool, s: &[u8], n: usize) -> Figures
+        requires { ⌜ (36 ≤ length (now s)) × (self .system + n < 18446744073709551616) × (self .common + n < 18446744073709551616) × (self .count + 1 < 18446744073709551616) ⌝ }
         ensures { λ r. ⌜ r ≡ cond counting (plus self (figuresBy (recordOf (now (s .entry))) n)) self ⌝ }
     {
         if !counting {
             return self;
         }
         if s[2] != Variable::ADDED {
-            return self;
+            return Figures {
+                system: self.system,
+                common: self.common,
+                count: self.count + 1,
+            };
         }
         let system = Variable::SYSTEM_GUID;
         let common = Variable::COMMON_GUID;
@@ -46,6 +53,7 @@ impl Figures {
         Figures {
             system: self.system + count_if(buffers::same(guid, &system), n),
             common: self.common + count_if(buffers::same(guid, &common), n),
+            count: self.count + 1,
         }
     }
 }

@@ -27,7 +27,6 @@ use Rattle.bank.proofs.PartitionLaws.{bank-size}
 use Rattle.bank.proofs.PaddedLaws.{length-blanks}
 use Rattle.bank.proofs.OutputLaws.{length-output, bytes-output}
 use Rattle.records.specs.Match.{matches, deleted}
-use Rattle.records.specs.Figures.{figuresBy, plus, figuresOf}
 use Rattle.book.specs.Edit.{plain, insert, editedBy, grows, refusedEdit}
 use Rattle.book.specs.Book.{partSize, Book, FineBook}
 use Rattle.book.specs.Commit.{judge, due, judgeBank, request}
@@ -158,7 +157,7 @@ calls-bytes : ByteCalls calls
 calls-bytes = let y : Bytes (replicate 1 255) × Bytes (replicate 10 255) = (bytes-ff 1, bytes-ff 10) in (y, (y, (tt, (y, (tt, tt)))))
 
 not-12 : No12 book calls
-unfolding No12 step bySlot editBank editAs refusedEdit editedBy grows commitTo commitBank commitAs judgeBank judge due figuresOf figuresBy plus moveIn total liveTotal select liveOf live sizes sizeOf matches deleted deletedState typeOf eqBytes request bankSize partSize
+unfolding No12 step bySlot editBank editAs refusedEdit editedBy grows commitTo commitBank commitAs judgeBank judge due moveIn total liveTotal select liveOf live sizes sizeOf matches deleted deletedState typeOf eqBytes request bankSize partSize
 not-12 = ((λ e. omega arith), ((λ e. omega arith), ((λ e. omega arith), ((λ e. omega arith), ((λ e. omega arith), tt)))))
 
 -- what they ask for
@@ -178,7 +177,7 @@ pub record Twice (b : Book) (es : List Event) : Type 0 where
 
 module _ (f : List ℕ) (s : Nvram) (w : List ℕ) (a : Along book f book 0 (pages book (eventsOf s w calls))) where
   twice : Twice book (eventsOf s w calls)
-  unfolding eventsOf pages mostLive requests step bySlot editBank editAs refusedEdit editedBy grows commitTo commitBank commitAs judgeBank judge due figuresOf figuresBy plus moveIn total liveTotal select liveOf live sizes sizeOf matches deleted deletedState typeOf eqBytes request bankSize partSize
+  unfolding eventsOf pages mostLive requests step bySlot editBank editAs refusedEdit editedBy grows commitTo commitBank commitAs judgeBank judge due moveIn total liveTotal select liveOf live sizes sizeOf matches deleted deletedState typeOf eqBytes request bankSize partSize
   twice =
       record {
         earlier = _ ∷ _ ∷ [];

@@ -5,7 +5,7 @@ use mathlib.Core.Logic.{_≢_}
 use mathlib.Core.Option.{Option, none, some}
 use mathlib.Core.List.{List}
 use Rattle.buffers.proofs.Laws.{clash}
-use Rattle.book.specs.Call.{Call, edit, lookup, fetch, commit, wholeImage, Answer, edited, looked, handed, committed, joined, erase, refusal, Outcome}
+use Rattle.book.specs.Call.{Call, edit, lookup, fetch, figures, commit, wholeImage, Answer, edited, looked, handed, summed, committed, joined, erase, refusal, Outcome}
 use Rattle.book.specs.Book.{Book}
 use Rattle.book.specs.Tally.{Tally, counted, tallied}
 use Rattle.book.proofs.Did.{Reads, refuses, reads, edits, writes, moves, overflows, Did}
@@ -16,6 +16,7 @@ abbrev pub Idle : Answer → Type 0
 Idle (edited k) = Unit {0}
 Idle (looked k f) = Unit {0}
 Idle handed = Unit {0}
+Idle (summed k f) = Unit {0}
 Idle (committed zero e offset long) = ⊥
 Idle (committed (suc k) e offset long) = e ≡ none
 Idle (joined k long) = Unit {0}
@@ -24,6 +25,7 @@ pub idle-refusal : (c : Call) (k : ℕ) → k ≢ 0 → Idle (refusal c k)
 idle-refusal (edit e) k h = tt
 idle-refusal (lookup key typ) k h = tt
 idle-refusal (fetch key typ) k h = tt
+idle-refusal figures k h = tt
 idle-refusal (commit room) zero h = absurd (h refl)
 idle-refusal (commit room) (suc k) h = refl
 idle-refusal (wholeImage room) k h = tt
@@ -32,6 +34,7 @@ pub idle-read : (c : Call) (a : Answer) → Reads c a → Idle a
 idle-read (edit e) a r = absurd r
 idle-read (lookup key typ) a r = subst Idle (sym (r .1)) tt
 idle-read (fetch key typ) a r = subst Idle (sym r) tt
+idle-read figures a r = subst Idle (sym (r .1)) tt
 idle-read (commit room) a r = absurd r
 idle-read (wholeImage room) a r = subst Idle (sym (r .1)) tt
 
@@ -41,6 +44,7 @@ pub idle-quiet : (a : Answer) → Idle a → erase a ≡ none
 idle-quiet (edited k) i = refl
 idle-quiet (looked k f) i = refl
 idle-quiet handed i = refl
+idle-quiet (summed k f) i = refl
 idle-quiet (committed zero e offset long) i = absurd i
 idle-quiet (committed (suc k) e offset long) i = i
 idle-quiet (joined k long) i = refl
@@ -49,6 +53,7 @@ pub idle-flash : (a : Answer) → Idle a → (x flash : List ℕ) → carriedOut
 idle-flash (edited k) i x flash = refl
 idle-flash (looked k f) i x flash = refl
 idle-flash handed i x flash = refl
+idle-flash (summed k f) i x flash = refl
 idle-flash (committed zero e offset long) i x flash = absurd i
 idle-flash (committed (suc k) e offset long) i x flash = refl
 idle-flash (joined k long) i x flash = refl
@@ -64,6 +69,7 @@ read-tally : (c : Call) (a : Answer) (t : Tally) → Reads c a → tallied c a t
 read-tally (edit e) a t r = absurd r
 read-tally (lookup key typ) a t r = refl
 read-tally (fetch key typ) a t r = refl
+read-tally figures a t r = refl
 read-tally (commit room) a t r = absurd r
 read-tally (wholeImage room) a t r = refl
 

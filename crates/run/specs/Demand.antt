@@ -16,7 +16,8 @@ use Rattle.run.specs.Flash.{carriedOut}
 use Rattle.run.specs.Run.{Opens, Event, Run, openedBook, Page, pages, Each, Never}
 use Rattle.run.specs.Wear.{activeSize, mostLive, insertedBytes, requests}
 
--- the answers: number, found or none, place, length, value, erase request, write offset, length and bytes, joined bytes
+-- the answers: number, found or none, place, length, value, both sums and the number of records, erase request, write offset, length and bytes,
+-- joined bytes
 pub record Answers (p : Page) : Type 0 where
   pub answer : p .event .answer ≡ step (p .before) (p .event .call) .answer
   pub out : p .event .out ≡ step (p .before) (p .event .call) .out

@@ -6,7 +6,7 @@ use lib.Bits.{bitAnd}
 use lib.ListN.{length, take, drop, replicate}
 use Rattle.buffers.specs.Bytes.{over}
 use Rattle.bank.specs.Bank.{bankSize}
-use Rattle.book.specs.Call.{Answer, edited, looked, handed, committed, joined}
+use Rattle.book.specs.Call.{Answer, edited, looked, handed, summed, committed, joined}
 
 -- an erase sets the 65,536 bytes from an offset on to 0xFF
 unfoldable pub erased : ℕ → List ℕ → List ℕ
@@ -32,6 +32,7 @@ abbrev pub carriedOut : Answer → List ℕ → List ℕ → List ℕ
 carriedOut (edited k) x flash = flash
 carriedOut (looked k f) x flash = flash
 carriedOut handed x flash = flash
+carriedOut (summed k f) x flash = flash
 carriedOut (committed zero erase offset long) x flash = written offset x (erasedBy erase flash)
 carriedOut (committed (suc k) erase offset long) x flash = flash
 carriedOut (joined k long) x flash = flash

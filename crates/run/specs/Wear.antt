@@ -7,7 +7,7 @@ use Rattle.bank.specs.Bank.{Slot, empty, invalid, valid}
 use Rattle.bank.specs.Totals.{liveTotal}
 use Rattle.book.specs.Edit.{grows}
 use Rattle.book.specs.Book.{Book, activeSlot, slotSize}
-use Rattle.book.specs.Call.{Call, edit, lookup, fetch, commit, wholeImage, number, erase}
+use Rattle.book.specs.Call.{Call, edit, lookup, fetch, figures, commit, wholeImage, number, erase}
 use Rattle.run.specs.Run.{Page}
 
 -- S: the size in the header of the book's active bank
@@ -24,6 +24,7 @@ abbrev pub liveAt : Book → Call → ℕ
 liveAt b (edit e) = 0
 liveAt b (lookup key typ) = 0
 liveAt b (fetch key typ) = 0
+liveAt b figures = 0
 liveAt b (commit room) = slotLive (activeSlot b)
 liveAt b (wholeImage room) = 0
 
@@ -38,6 +39,7 @@ added (edit e) zero = grows e
 added (edit e) (suc k) = 0
 added (lookup key typ) k = 0
 added (fetch key typ) k = 0
+added figures k = 0
 added (commit room) k = 0
 added (wholeImage room) k = 0
 

@@ -1,5 +1,5 @@
--- `check_records`: the check of s is that of its bytes from `at` on, with the sums so far added (`Walked`): `begin`, `turn`, `stopped` and `done`.
--- Neither sum is over `at`, so adding a record's size stays in range.
+-- `check_records`: the check of s is that of its bytes from `at` on, with the figures so far added (`Walked`): `begin`, `turn`, `stopped` and
+-- `done`. None of the three is over `at`, so adding a record stays in range.
 use native.Mathlib.Omega.{arith}
 use borrow.Author.Needs.{needs}
 use Prim.Native.Nat.{ℕ, _-_, _≤_}
@@ -33,28 +33,28 @@ next-record-requires c κs = (c .before .loop .inv .within, search needs)
 enum-known-end : tie.Need-enum-known-end Inv-loop μ-loop
 enum-known-end c = search needs
 
-sub-count : tie.Need-sub-count Inv-loop μ-loop
-sub-count c = search needs
+sub-add : tie.Need-sub-add Inv-loop μ-loop
+sub-add c = search needs
 
-part-count-start : tie.Need-part-count-start Inv-loop μ-loop
-part-count-start c = search needs
+part-add-start : tie.Need-part-add-start Inv-loop μ-loop
+part-add-start c = search needs
 
-part-count-end : tie.Need-part-count-end Inv-loop μ-loop
-part-count-end c = search needs
+part-add-end : tie.Need-part-add-end Inv-loop μ-loop
+part-add-end c = search needs
 
-sub-count-2 : tie.Need-sub-count-2 Inv-loop μ-loop
-sub-count-2 c = omega (arith, further (c .before) .more)
+sub-add-2 : tie.Need-sub-add-2 Inv-loop μ-loop
+sub-add-2 c = omega (arith, further (c .before) .more)
 
-count-requires : tie.Need-count-requires Inv-loop μ-loop
-count-requires c κs = let m = further (c .before) in
+add-requires : tie.Need-add-requires Inv-loop μ-loop
+add-requires c κs = let m = further (c .before) in
     let f = c .before .before .before .before .before .before .loop .inv .small in
-    (subst (λ (l : List ℕ). 36 ≤ length l) (sym (tail (c .before .before .before .before .before .before .before .before .before .args .s .now) (c .before .before .before .before .before .before .loop .at))) (m .long), omega (arith, m .more, m .within, f .0), omega (arith, m .more, m .within, f .1))
+    (subst (λ (l : List ℕ). 36 ≤ length l) (sym (tail (c .before .before .before .before .before .before .before .before .before .args .s .now) (c .before .before .before .before .before .before .loop .at))) (m .long), omega (arith, m .more, m .within, f .0), omega (arith, m .more, m .within, f .1), omega (arith, m .more, m .within, f .2))
 
 loop-less : tie.Need-loop-less Inv-loop μ-loop
 loop-less c = let m = further (c .before .before) in omega (arith, m .more, m .within)
 
 loop-again : tie.Need-loop-again Inv-loop μ-loop
-loop-again c = turn (c .before .before .before .before .before .before .before .loop .inv) (further (c .before .before)) (c .count .result) (c .count .ensures)
+loop-again c = turn (c .before .before .before .before .before .before .before .loop .inv) (further (c .before .before)) (c .add .result) (c .add .ensures)
 
 enum-told : tie.Need-enum-told Inv-loop μ-loop
 enum-told c = search needs
@@ -78,11 +78,11 @@ check-records-spec =
     loop-holds
     next-record-requires
     enum-known-end
-    sub-count
-    part-count-start
-    part-count-end
-    sub-count-2
-    count-requires
+    sub-add
+    part-add-start
+    part-add-end
+    sub-add-2
+    add-requires
     loop-less
     loop-again
     enum-told

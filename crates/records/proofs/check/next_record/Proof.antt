@@ -83,14 +83,17 @@ part-crc32-with-end c = search needs
 crc32-with-requires : tie.Need-crc32-with-requires
 crc32-with-requires c κs = search needs
 
+parse-requires-2 : tie.Need-parse-requires-2
+parse-requires-2 c κs = search needs
+
 returns-6 : tie.Need-returns-6
 unfolding u16At
-returns-6 c = let a = c .before .before .before .before .before .before .before .before .before .before .before .before .before .before .before .before .before .before .before .before .args in let h = c .before .before .before .before .before .before .before .before .before .before .before .parse in let n = c .before .before .before .before .before .before .before .before .size in let sum = c .before .before .crc32-with in let start = c .before .before .before .before .before .before .before .before .before .before .before .before .before .u32-of .ensures in
-    next-end (a .s .now) (a .at) (c .before .before .before .before .before .before .before .before .before .before .before .before .before .before .before .before .before .if1 .left) (h .result) (h .ensures) (n .result) (n .ensures) (sum .result) (sum .ensures .1 (c .before .before .before .before .before .before .before .before .before .before .before .before .before .before .before .before .before .before .before .before .pre .1)) (omega (arith, start, c .before .before .before .before .before .before .before .before .before .before .before .before .if2 .left)) (omega (arith, start, c .before .before .before .before .before .before .before .before .before .before .before .before .if2 .left)) (c .before .before .before .before .before .before .before .before .before .if3 .left) (c .before .before .before .before .before .before .if4 .left) (c .before .before .before .before .if5 .left) (c .if6 .taken)
+returns-6 c = let a = c .before .before .before .before .before .before .before .before .before .before .before .before .before .before .before .before .before .before .before .before .before .args in let h = c .before .before .before .before .before .before .before .before .before .before .before .before .parse in let n = c .before .before .before .before .before .before .before .before .before .size in let sum = c .before .before .before .crc32-with in let stored = c .before .before .parse2 in let start = c .before .before .before .before .before .before .before .before .before .before .before .before .before .before .u32-of .ensures in
+    next-end (a .s .now) (a .at) (c .before .before .before .before .before .before .before .before .before .before .before .before .before .before .before .before .before .before .if1 .left) (h .result) (h .ensures) (n .result) (n .ensures) (sum .result) (sum .ensures .1 (c .before .before .before .before .before .before .before .before .before .before .before .before .before .before .before .before .before .before .before .before .before .pre .1)) (stored .result) (stored .ensures) (omega (arith, start, c .before .before .before .before .before .before .before .before .before .before .before .before .before .if2 .left)) (omega (arith, start, c .before .before .before .before .before .before .before .before .before .before .before .before .before .if2 .left)) (c .before .before .before .before .before .before .before .before .before .before .if3 .left) (c .before .before .before .before .before .before .before .if4 .left) (c .before .before .before .before .before .if5 .left) (c .if6 .taken)
 
 returns-7 : tie.Need-returns-7
-returns-7 c = let a = c .before .before .before .before .before .before .before .before .before .before .before .before .before .before .before .before .before .before .before .before .args in let h = c .before .before .before .before .before .before .before .before .before .before .before .parse in let n = c .before .before .before .before .before .before .before .before .size in let sum = c .before .before .crc32-with in
-    next-spoilt (a .s .now) (a .at) (c .before .before .before .before .before .before .before .before .before .before .before .before .before .before .before .before .before .if1 .left) (h .result) (h .ensures) (n .result) (n .ensures) (sum .result) (sum .ensures .1 (c .before .before .before .before .before .before .before .before .before .before .before .before .before .before .before .before .before .before .before .before .pre .1)) (c .if6 .left)
+returns-7 c = let a = c .before .before .before .before .before .before .before .before .before .before .before .before .before .before .before .before .before .before .before .before .before .args in let h = c .before .before .before .before .before .before .before .before .before .before .before .before .parse in let n = c .before .before .before .before .before .before .before .before .before .size in let sum = c .before .before .before .crc32-with in let stored = c .before .before .parse2 in
+    next-spoilt (a .s .now) (a .at) (c .before .before .before .before .before .before .before .before .before .before .before .before .before .before .before .before .before .before .if1 .left) (h .result) (h .ensures) (n .result) (n .ensures) (sum .result) (sum .ensures .1 (c .before .before .before .before .before .before .before .before .before .before .before .before .before .before .before .before .before .before .before .before .before .pre .1)) (stored .result) (stored .ensures) (c .if6 .left)
 
 pub next-record-spec : {M : Type 1} → statement M
 next-record-spec =
@@ -120,5 +123,6 @@ next-record-spec =
     part-crc32-with-start
     part-crc32-with-end
     crc32-with-requires
+    parse-requires-2
     returns-6
     returns-7)
