@@ -39,8 +39,8 @@ extern "C" {
 
 /*
  * Numbers of a call. All but the first refuse, and a refusal changes nothing that was lent, except
- * as feqyondil_same_settings, feqyondil_open, feqyondil_lookup, feqyondil_commit and
- * feqyondil_whole_image say. What to do after each: docs/USING.md, 'Refusals'.
+ * as feqyondil_same_settings, feqyondil_open, feqyondil_lookup, feqyondil_figures, feqyondil_commit
+ * and feqyondil_whole_image say. What to do after each: docs/USING.md, 'Refusals'.
  */
 #define FEQYONDIL_OK 0u
 #define FEQYONDIL_IMAGE_SHORT 1u   /* the image is below 65,536 bytes */
@@ -186,7 +186,7 @@ static inline uint32_t feqyondil_state_number(const uint8_t *state, size_t offse
 /*
  * Opens an image of 1 to 16 banks of 65,536 bytes; a last part of a bank is ignored. Answers 0,
  * and fills state and work area. The active bank may still be one that isn't Valid, where every
- * Valid bank has generation 0: then edits, lookups and commits are refused by 7.
+ * Valid bank has generation 0: then edits, lookups, figures and commits are refused by 7.
  *
  * Refusals: 6 where the state is below 204 bytes, and then nothing is written; 1, 2, 3, 4, in this
  * order, and then the state is all zeros in its first 204 bytes and the work area as it was.
@@ -237,6 +237,23 @@ uint32_t feqyondil_lookup(const uint8_t *state, size_t state_len, const uint8_t 
  */
 size_t feqyondil_value(const uint8_t *state, size_t state_len, const uint8_t *work, size_t work_len,
                        const uint8_t *key, size_t key_len, uint32_t type, uint8_t *out, size_t out_len);
+
+/* Places in what feqyondil_figures answers. */
+#define FEQYONDIL_FIGURES_SYSTEM 0u /* bytes of live system records */
+#define FEQYONDIL_FIGURES_COMMON 1u /* bytes of live common records */
+#define FEQYONDIL_FIGURES_COUNT 2u  /* how many records there are, dead ones too */
+
+/*
+ * Answers what the active bank's records come to. figures gets the bytes of its live system
+ * records, those of its live common records, and how many records there are, dead ones too. A
+ * record takes 37 bytes, and its key and its value. The two sums are what a commit holds against the
+ * header's limits; a record under a GUID of neither type is in neither sum, though a lookup finds it
+ * as Common.
+ *
+ * Refusals: 6 and 7; figures then gets zeros.
+ */
+uint32_t feqyondil_figures(const uint8_t *state, size_t state_len, const uint8_t *work, size_t work_len,
+                           uint64_t figures[3]);
 
 /* Places in what feqyondil_commit asks for. */
 #define FEQYONDIL_ERASE 0u        /* 1, or 0 where no bank is to be erased */

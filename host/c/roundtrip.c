@@ -1,8 +1,8 @@
 /*
  * The header and the library from C: a store is opened, edited and committed until its bank moves,
  * the flash is written as the commits ask, and what is opened again has the values. What the header
- * says of null pointers, of the state's numbers, of a store after a move and after 12, of the settings of
- * two banks, and of why reading a bank stopped is tried too.
+ * says of null pointers, of the state's numbers, of what records come to, of a store after a move and after
+ * 12, of the settings of two banks, and of why reading a bank stopped is tried too.
  */
 #include "board.h"
 
@@ -11,7 +11,7 @@
 #define TURNS 9u
 #define RECORD 42u /* of the key and a value of one byte */
 
-static uint64_t requests[4], found[3], length[1], fields[8], same[1], spot[2];
+static uint64_t requests[4], found[3], figures[3], length[1], fields[8], same[1], spot[2];
 
 static const uint8_t key[] = {'r', 'a', 't', 'e'};
 
@@ -52,6 +52,14 @@ static void find(uint8_t count) {
     check(value[0] == count && value[1] == 7, "value");
 }
 
+/* Of the active bank: one live record, and those before it dead. */
+static void sums(void) {
+    uint32_t total = entry(number_at(FEQYONDIL_STATE_ACTIVE), FEQYONDIL_ENTRY_TOTAL);
+    check(feqyondil_figures(STORE, figures) == FEQYONDIL_OK, "figures");
+    check(figures[FEQYONDIL_FIGURES_SYSTEM] == RECORD && figures[FEQYONDIL_FIGURES_COMMON] == 0, "both sums");
+    check(24 + RECORD * figures[FEQYONDIL_FIGURES_COUNT] == total, "the number of records");
+}
+
 /* The whole image right after a move, and when the store was opened again. */
 static void moved(uint32_t from) {
     check(entry(from, FEQYONDIL_ENTRY_TOTAL) > SIZE, "the bank that was left");
@@ -73,6 +81,7 @@ static unsigned turns(void) {
         active = number_at(FEQYONDIL_STATE_ACTIVE);
         check(number_at(FEQYONDIL_STATE_TALLY) == requests[FEQYONDIL_ERASE], "tally");
         find(count);
+        sums();
         if (active != before)
             moved(before);
         reopen();
@@ -149,7 +158,7 @@ static void nulls_of_banks(void) {
     check(feqyondil_same_settings(NONE, NONE, same) == FEQYONDIL_BANK_LENGTH, "null: settings");
 }
 
-/* Of the edits and lookups; an empty key and an empty value are as good as others. */
+/* Of the edits, the lookups and the figures; an empty key and an empty value are as good as others. */
 static void nulls_of_edits(void) {
     check(feqyondil_insert(NONE, WORK, KEY, KEY, COMMON) == FEQYONDIL_NOT_SOUND, "null: insert, state");
     check(feqyondil_insert(STATE, NONE, KEY, KEY, COMMON) == FEQYONDIL_NOT_SOUND, "null: insert, work");
@@ -163,6 +172,8 @@ static void nulls_of_edits(void) {
     check(feqyondil_value(NONE, WORK, KEY, FEQYONDIL_SYSTEM, output, FLASH) == 0, "null: value, state");
     check(feqyondil_value(STATE, NONE, KEY, FEQYONDIL_SYSTEM, output, FLASH) == 0, "null: value, work");
     check(feqyondil_value(STORE, KEY, FEQYONDIL_SYSTEM, NONE) == 1, "null: value, out");
+    check(feqyondil_figures(NONE, WORK, figures) == FEQYONDIL_NOT_SOUND, "null: figures, state");
+    check(feqyondil_figures(STATE, NONE, figures) == FEQYONDIL_NOT_SOUND, "null: figures, work");
     check(feqyondil_remove(NONE, WORK, KEY, COMMON) == FEQYONDIL_NOT_SOUND, "null: remove, state");
     check(feqyondil_remove(STATE, NONE, KEY, COMMON) == FEQYONDIL_NOT_SOUND, "null: remove, work");
     check(feqyondil_remove(STORE, NONE, COMMON) == FEQYONDIL_OK, "null: remove, key");

@@ -35,6 +35,7 @@ static void insert(void) { answer = feqyondil_insert(STORE, KEY, value, sizeof v
 static void remove_key(void) { answer = feqyondil_remove(STORE, KEY, FEQYONDIL_SYSTEM); }
 static void lookup(void) { answer = feqyondil_lookup(STORE, KEY, FEQYONDIL_SYSTEM, numbers); }
 static void fetch(void) { answer = (uint32_t)feqyondil_value(STORE, KEY, FEQYONDIL_SYSTEM, output, sizeof output); }
+static void figures(void) { answer = feqyondil_figures(STORE, numbers); }
 static void commit(void) { answer = feqyondil_commit(STORE, output, sizeof output, numbers); }
 static void whole_image(void) { answer = feqyondil_whole_image(STORE, output, sizeof output, numbers); }
 /* Of the bank that the commit before it wrote. */
@@ -57,6 +58,7 @@ static const struct {
     {"insert", insert},
     {"lookup", lookup},
     {"value", fetch},
+    {"figures", figures},
     {"whole_image", whole_image},
     {"commit", commit},
     {"same_settings", same_settings},

@@ -96,6 +96,15 @@ pub(crate) fn value_right(state: Nvram, work: &[u8], line: &[u8]) -> bool {
     (decimal(line, 3) == value.len() as u64) & (hex(line, 4) == crc32::crc32(value) as u64)
 }
 
+pub(crate) fn figures_right(state: Nvram, work: &[u8], line: &[u8]) -> bool {
+    let done = figures::of_active(state, work);
+    let used = done.used;
+    (decimal(line, 1) == done.number as u64)
+        & (decimal(line, 2) == used.system as u64)
+        & (decimal(line, 3) == used.common as u64)
+        & (decimal(line, 4) == used.count as u64)
+}
+
 // Whether a commit answered what its line says, and the state after it.
 pub(crate) struct Committed {
     pub(crate) right: bool,

@@ -1,5 +1,6 @@
 // A run: its lines one after the other.
 use super::calls::commit;
+use super::calls::figures_right;
 use super::calls::insert;
 use super::calls::lookup_right;
 use super::calls::remove;
@@ -154,6 +155,9 @@ impl Walk {
         }
         if kind == b'V' {
             return self.with_right(value_right(state, work, line));
+        }
+        if kind == b'F' {
+            return self.with_right(figures_right(state, work, line));
         }
         if kind == b'A' {
             return self.with_right(whole_right(state, work, line));

@@ -55,6 +55,13 @@ impl Lent {
         out[1] as u32
     }
 
+    /// Answers the number of records, which is not 0.
+    pub fn figures(&self, _: &[u8]) -> u32 {
+        let mut out = [0; 3];
+        feqyondil::lent::figures(&self.state, &self.work, &mut out);
+        out[2] as u32
+    }
+
     /// Inserts over the last record, commits if `COMMIT`, and takes the insert back.
     pub fn insert<const COMMIT: bool>(&mut self, key: &[u8]) -> u32 {
         let before = self.state;

@@ -52,6 +52,12 @@ fn calls(case: &Case, report: &mut Report) {
         ("Rust get_variable, trusting", &mut trusting),
     ];
     report.table(&title("lookup"), contenders, key, Some(1.5));
+    let contenders: &mut [Contender] = &mut [
+        ("port lookup", &mut |key| lent.lookup(key)),
+        ("port", &mut |key| lent.figures(key)),
+        ("Rust, its own sums, trusting", &mut |key| rust_figures(&mut store, key)),
+    ];
+    report.table(&title("figures over a lookup of ours"), contenders, key, Some(1.2));
     for (call, rust, port) in EDITS {
         let contenders: &mut [Contender] = &mut [
             ("Rust, trusting", &mut |key| rust(&mut store, key)),
@@ -123,6 +129,8 @@ mod tests {
             let place = rust_in_blocks(&Tables::new(&mut entries), &lent, key);
             assert_eq!((place > 0, lent.lookup(key)), (true, place));
             assert_eq!(rust_lookup(&mut store, key), 1);
+            assert_eq!(lent.figures(key) as usize, case.records.len());
+            assert_eq!(rust_figures(&mut store, key), 1);
         }
     }
 

@@ -31,6 +31,12 @@ pub fn rust_lookup(store: &mut v3::Nvram, key: &[u8]) -> u32 {
     u32::from(found.is_some())
 }
 
+/// Its sums and its number of records, by its Display: it tells them in no other way.
+pub fn rust_figures(store: &mut v3::Nvram, _: &[u8]) -> u32 {
+    let told = peek::active_bank(store).to_string();
+    u32::from(!told.is_empty())
+}
+
 /// Inserts over the last record, commits if `COMMIT`, and takes the insert back.
 pub fn rust_insert<const COMMIT: bool>(store: &mut v3::Nvram, key: &[u8]) -> u32 {
     let bank = peek::active_bank(store);

@@ -6,7 +6,8 @@ use std::string::String;
 use std::vec::Vec;
 
 use crate::cause;
-use crate::commit::{told, Commit};
+use crate::commit::{self, Commit};
+use crate::figures;
 use crate::partition::slot;
 use crate::state::*;
 use crate::store::place;
@@ -160,11 +161,16 @@ fn answers(defined: &mut Defined) {
     found[defined.take_place("FOUND_PLACE")] = 65;
     found[defined.take_place("FOUND_LENGTH")] = 9;
     assert_eq!(place(found), Some(65..74));
+    let mut summed = [0; 3];
+    summed[defined.take_place("FIGURES_SYSTEM")] = 42;
+    summed[defined.take_place("FIGURES_COMMON")] = 38;
+    summed[defined.take_place("FIGURES_COUNT")] = 3;
+    assert_eq!(figures::told(summed), Figures { system: 42, common: 38, count: 3 });
     let mut requests = [0; 4];
     requests[defined.take_place("ERASE")] = 1;
     requests[defined.take_place("ERASE_OFFSET")] = 65_536;
     requests[defined.take_place("WRITE_OFFSET")] = 131_072;
     requests[defined.take_place("WRITE_LENGTH")] = 3;
     let commit = Commit { erase: Some(65_536), offset: 131_072, bytes: &[7; 3] };
-    assert_eq!(told(0, requests, &[7; 4]), Ok(commit));
+    assert_eq!(commit::told(0, requests, &[7; 4]), Ok(commit));
 }

@@ -53,6 +53,13 @@ extern "C" {
         out: *mut u8,
         out_len: usize,
     ) -> usize;
+    fn feqyondil_figures(
+        state: *const u8,
+        state_len: usize,
+        work: *const u8,
+        work_len: usize,
+        figures: *mut [u64; 3],
+    ) -> u32;
     fn feqyondil_commit(
         state: *mut u8,
         state_len: usize,
@@ -124,6 +131,15 @@ pub fn value(state: &[u8], work: &[u8], key: &[u8], typ: u32, out: &mut [u8]) ->
     let (out, out_len) = (out.as_mut_ptr(), out.len());
     // SAFETY: as above.
     unsafe { feqyondil_value(state, state_len, work, work_len, key, key_len, typ, out, out_len) }
+}
+
+/// Sums the active bank's records up: 0, 6 or 7; `figures` becomes the bytes of live system records,
+/// those of live common ones, and how many records there are, dead ones too.
+pub fn figures(state: &[u8], work: &[u8], figures: &mut [u64; 3]) -> u32 {
+    let (state, state_len) = (state.as_ptr(), state.len());
+    let (work, work_len) = (work.as_ptr(), work.len());
+    // SAFETY: as above.
+    unsafe { feqyondil_figures(state, state_len, work, work_len, figures) }
 }
 
 /// Commits: 0, 5, 6, 7, or 9 to 12. `requests` becomes whether a bank is to be erased (1 or 0) and

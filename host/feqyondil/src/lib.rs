@@ -21,6 +21,7 @@ extern crate std;
 mod cause;
 mod checksum;
 mod commit;
+mod figures;
 #[cfg(test)]
 mod header;
 pub mod lent;
@@ -35,6 +36,7 @@ mod store;
 pub use cause::{bank_cause, Cause, Spot};
 pub use checksum::{crc32, Tables};
 pub use commit::{Commit, NotCommitted};
+pub use figures::Figures;
 pub use partition::{partition_parse, partition_serialize, Partition, Slot};
 pub use refusal::Refusal;
 pub use settings::same_settings;

@@ -3,6 +3,7 @@
 use core::ops::Range;
 
 use crate::commit::{self, Commit, NotCommitted};
+use crate::figures::{self, Figures};
 use crate::lent;
 use crate::refusal::Refusal;
 use crate::state::{self, Entry, STATE_ACTIVE, STATE_BANKS, STATE_TALLY};
@@ -41,7 +42,7 @@ impl<'a> Store<'a> {
     /// has [`PART_SIZE`](crate::PART_SIZE) bytes for each bank; later bytes stay as they are.
     ///
     /// The active bank of an opened store may be one that is not Valid, where every Valid bank
-    /// has generation 0: then edits, lookups and commits are refused by
+    /// has generation 0: then edits, lookups, figures and commits are refused by
     /// [`NotValid`](Refusal::NotValid).
     ///
     /// Refusals: ImageShort, ImageLong, WorkShort, NoValid, in this order.
@@ -95,6 +96,16 @@ impl<'a> Store<'a> {
     /// value or the lookup is refused; [`get`](Store::get) tells these from an empty value.
     pub fn value(&self, key: &[u8], typ: VarType, out: &mut [u8]) -> usize {
         lent::value(&self.state, self.work, key, typ.number(), out)
+    }
+
+    /// What the active bank's records come to: both sums that a commit holds against the header's
+    /// limits, and how many records there are.
+    ///
+    /// Refusal: NotValid.
+    pub fn figures(&self) -> Result<Figures, Refusal> {
+        let mut figures = [u64::MAX; 3];
+        Refusal::check(lent::figures(&self.state, self.work, &mut figures))?;
+        Ok(figures::told(figures))
     }
 
     /// Answers what to do to the flash so that it holds the active bank; the bytes to write are at

@@ -3,6 +3,7 @@
 
 mod causes;
 mod faults;
+mod figures;
 mod settings;
 
 use feqyondil::bank_cause;
@@ -20,6 +21,7 @@ use crate::partition::Read;
 use crate::store::fixed::two_banks;
 use crate::store::lent::port::{Done, Port};
 use faults::*;
+use figures::*;
 
 /// The first difference among many inputs, made small.
 fn found<C: Comparison>(
@@ -41,7 +43,7 @@ fn has(told: &str, words: &[&str]) {
 /// what is told.
 type Row = (fn(&mut Done), usize, usize, &'static [&'static str]);
 
-const RUNS: [Row; 8] = [
+const RUNS: [Row; 13] = [
     (turns_all_down, 0, 0, &["01:   0\n  port: 4"]),
     (the_first_wins, 0, 0, &["01's state:   n 2, active 0", "port's state: n 2, active 1"]),
     (writes_and_refuses, 0, 1, &["the work area from 0 on, 01: [5a, "]),
@@ -50,6 +52,16 @@ const RUNS: [Row; 8] = [
     (says_none, 2, 1, &["Rust: 0, found 1, place ", "port: 0, found 0, place 0"]),
     (finds_nothing, 1, 0, &["Rust: 0, found 0, place 0", "port: 0, found 1, place 0"]),
     (whole_banks, 1, 0, &["call 1: whole image", "port: 0, length 65536, "]),
+    (counts_the_live_alone, 2, 1, &["Rust: 0, system 0, common 0, 1 records", ", 0 records"]),
+    (sums_the_dead, 2, 1, &["Rust: 0, system 0, common 0, 1 records", "port: 0, system 3"]),
+    (
+        sums_a_third_guid,
+        1,
+        1,
+        &["Rust: 0, system 0, common 0, 1 records", "port: 0, system 0, common 3"],
+    ),
+    (sums_of_values, 2, 1, &["Rust: 0, system 0, common 3", "port: 0, system 0, common 0"]),
+    (refuses_with_a_record, 1, 0, &["01:   7, system 0, common 0, 0 records", "port: 7"]),
 ];
 
 const MOVING_RUNS: [Row; 15] = [

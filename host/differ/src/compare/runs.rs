@@ -82,7 +82,8 @@ mod tests {
         let all = counted(600, &Style::store(), 12);
         assert!(reached(&all.openings, &[0, 3, 4, 6]), "{all}");
         assert!(reached(&all.numbers, &[0, 5, 6, 7, 8, 9, 10, 12, 13]), "{all}");
-        let calls = ["inserts", "removes", "lookups", "values", "commits", "whole images"];
+        let calls =
+            ["inserts", "removes", "lookups", "values", "figures", "commits", "whole images"];
         assert!(calls.iter().all(|call| all.others.of(call) > 0), "{all}");
     }
 

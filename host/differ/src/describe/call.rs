@@ -19,6 +19,7 @@ pub enum Call {
     Lookup(Var),
     /// With room for so many bytes.
     Value(Var, usize),
+    Figures,
     /// With room for so many bytes more than it needs.
     Commit(isize),
     Whole(isize),
@@ -45,6 +46,7 @@ impl Call {
         let room = |more: isize, need: isize| (need + more).max(0) as usize;
         let (what, var) = match self {
             Call::Made(call) => return call.clone(),
+            Call::Figures => return call::Call::figures(),
             Call::Commit(more) => return call::Call::commit(room(*more, BANK as isize)),
             Call::Whole(more) => return call::Call::whole(room(*more, banks * BANK as isize)),
             Call::Insert(var, value) => return insert(var, value, bank, within),
@@ -123,6 +125,7 @@ pub fn call(style: &Style) -> impl Strategy<Value = Call> {
     prop_oneof![
         5 => var(style).prop_map(Call::Lookup),
         3 => value.prop_map(|(var, room)| Call::Value(var, room)),
+        2 => Just(Call::Figures),
         style.commits => room().prop_map(Call::Commit),
         1 => room().prop_map(Call::Whole),
         3 + style.inserts => edit(style),

@@ -101,7 +101,7 @@ fn lent<'a>(bytes: &Cow<'a, [u8]>) -> &'a [u8] {
 }
 
 /// The number behind `name` in what `told` prints.
-fn figure(told: impl Display, name: &str) -> Result<usize, String> {
+pub fn figure(told: impl Display, name: &str) -> Result<usize, String> {
     let text = told.to_string();
     let behind = text.rsplit_once(name).and_then(|(_, rest)| leading(rest));
     behind.ok_or_else(|| format!("no {name}in {text}"))

@@ -4,6 +4,7 @@
 mod bank;
 mod commit;
 mod edit;
+mod figures;
 mod list;
 pub mod sound;
 
@@ -19,6 +20,7 @@ impl Book {
             What::Commit(room) => self.commit(call, room),
             What::Whole(room) => self.whole(call, room),
             What::Lookup | What::Value(_) => self.lookup(call),
+            What::Figures => self.figures(call),
             What::Insert(_) | What::Remove => self.edit(call),
         }
     }

@@ -41,7 +41,7 @@ fn the_rust_panics_where_the_active_slot_is_not_valid() {
     let image = [vec![0xFF; BANK], plain(0)].concat();
     let panics = Err("it panics".to_string());
     let [lookup, remove] = [What::Lookup, What::Remove].map(|what| Call::new(what, b"", 1));
-    for call in [lookup, remove, insert(0), commit()] {
+    for call in [lookup, remove, insert(0), Call::figures(), commit()] {
         assert_eq!(rust_answers(&image, &call), panics);
         assert_eq!(judged(&image, vec![call]).numbers.of(7), 1);
     }

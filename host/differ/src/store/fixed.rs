@@ -3,6 +3,7 @@
 
 mod commits;
 pub mod edges;
+mod figures;
 mod pieces;
 mod replay;
 pub mod two_banks;
@@ -30,6 +31,7 @@ fn list() -> Vec<Named> {
     out.extend(edits());
     out.extend(keys());
     out.extend(kills());
+    out.extend(figures::list());
     out.extend(commits::list());
     out
 }

@@ -6,13 +6,13 @@ mod told;
 use std::borrow::Cow;
 use std::panic::{catch_unwind, AssertUnwindSafe};
 
-use image::{BANK, COMMON_GUID, HEADER, RECORD, SYSTEM_GUID};
+use image::{BANK, HEADER, RECORD};
 use oracle::{v3, Nvram, Partition, VarType};
 
-use super::book::{Bank, Book, Slot, LIVE, PART};
+use super::book::{Bank, Book, Slot, PART};
 use super::lent::call::{lent, Answer, Call, What};
 use super::lent::state::{EMPTY, INVALID, VALID};
-use crate::partition::rust::{header, record};
+use crate::partition::rust::{figure, header, record};
 use requests::Requests;
 use told::Told;
 
@@ -64,6 +64,7 @@ impl<'a> Rust<'a> {
         guarded(|| match call.what {
             What::Commit(room) => self.commit(room),
             What::Whole(room) => self.whole(room),
+            What::Figures => self.figures(),
             _ => Ok(self.ask(call)),
         })?
     }
@@ -83,7 +84,7 @@ impl<'a> Rust<'a> {
     }
 
     fn commit(&mut self, room: usize) -> Result<Answer, String> {
-        let refusal = refusal(peek::active_bank(&mut self.store));
+        let refusal = refusal(peek::active_bank(&mut self.store))?;
         let mut requests = Requests::default();
         let number = match self.store.apply(&mut requests) {
             Ok(()) => 0,
@@ -96,6 +97,11 @@ impl<'a> Rust<'a> {
             self.told = Told::read(&format!("{:?}", self.store))?;
         }
         Ok(Answer::Commit(number, asked, lent(room, &written)))
+    }
+
+    fn figures(&mut self) -> Result<Answer, String> {
+        let figures = figures(peek::active_bank(&mut self.store))?;
+        Ok(Answer::Figures(0, figures.map(|figure| figure as u64)))
     }
 
     fn whole(&self, room: usize) -> Result<Answer, String> {
@@ -147,18 +153,22 @@ fn guarded<T>(call: impl FnOnce() -> T) -> Result<T, String> {
     catch_unwind(AssertUnwindSafe(call)).map_err(|_| "it panics".to_string())
 }
 
+/// Its own `system_used` and `common_used`, and how many variables it has; they are told by its
+/// Display alone.
+fn figures(bank: &v3::Partition) -> Result<[usize; 3], String> {
+    let told = bank.to_string();
+    let of = |name| figure(&told, name);
+    Ok([of("system_used: ")?, of("common_used: ")?, of("count: ")?])
+}
+
 /// Which refusal it is if a commit is refused, for which the Rust has one word.
-fn refusal(bank: &v3::Partition) -> u32 {
-    let over = |guid: &[u8; 16], limit: u32| {
-        let live = bank.values.iter().filter(|v| v.header.state == LIVE);
-        let section = live.filter(|v| v.header.guid == guid);
-        section.map(size).sum::<usize>() > limit as usize
-    };
-    match &bank.header {
-        header if over(&SYSTEM_GUID, header.system_size) => 9,
-        header if over(&COMMON_GUID, header.common_size) => 10,
+fn refusal(bank: &v3::Partition) -> Result<u32, String> {
+    let [system, common, _] = figures(bank)?;
+    Ok(match &bank.header {
+        header if system > header.system_size as usize => 9,
+        header if common > header.common_size as usize => 10,
         _ => 12,
-    }
+    })
 }
 
 /// Bytes of a record.
@@ -188,6 +198,19 @@ mod tests {
         assert_eq!((state.n, state.active, state.tally), (3, 1, 7));
         assert_eq!((state.entries[1].total, work.len()), (74, 3 * PART));
         assert_eq!((work[PART + 24 + 2], work[PART + 73]), (0x7C, b'9'));
+    }
+
+    #[test]
+    fn figures_are_its_own() {
+        let image = image();
+        let mut rust = Rust::open(&image).unwrap().unwrap();
+        let mut figures = || rust.answer(&Call::figures());
+        assert_eq!(figures(), Ok(Answer::Figures(0, [50, 0, 1])));
+        let insert = |typ| Call::new(What::Insert(b"x".to_vec()), b"rate", typ);
+        for typ in [1, 0] {
+            rust.answer(&insert(typ)).unwrap();
+        }
+        assert_eq!(rust.answer(&Call::figures()), Ok(Answer::Figures(0, [42, 42, 3])));
     }
 
     #[test]

@@ -48,6 +48,20 @@ fn a_value_is_copied_as_far_as_there_is_room() {
 }
 
 #[test]
+fn figures_are_what_records_come_to() {
+    let mut work = work(1);
+    let mut store = Store::open(&image(), &mut work).unwrap();
+    let figures = |system, common, count| Ok(Figures { system, common, count });
+    assert_eq!(store.figures(), figures(0, 0, 0));
+    store.insert(b"rate", b"123456789", System).unwrap();
+    store.insert(b"k", b"", Common).unwrap();
+    assert_eq!(store.figures(), figures(50, 38, 2));
+    store.insert(b"rate", b"1", System).unwrap();
+    store.remove(b"k", Common).unwrap();
+    assert_eq!(store.figures(), figures(42, 0, 3));
+}
+
+#[test]
 fn a_commit_is_written_and_reopened() {
     let mut flash = [image(), vec![0xFF; BANK_SIZE]].concat();
     flash[8] = 2; // the generation
@@ -117,6 +131,7 @@ fn refusals_are_told() {
     let mut output = vec![0; BANK_SIZE];
     let mut store = Store::open(&invalid_first, &mut lent).unwrap();
     assert_eq!(store.remove(b"", Common), Err(Refusal::NotValid));
+    assert_eq!(store.figures(), Err(Refusal::NotValid));
     let refused = |refusal| Err(NotCommitted::Refused(refusal));
     assert_eq!(store.commit(&mut output), refused(Refusal::NotValid));
     let short = store.commit(&mut output[1..]);

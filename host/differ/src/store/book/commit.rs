@@ -1,9 +1,9 @@
 //! The commit and the whole image by the words of the scope paper (01), 'A commit, from the entry
 //! down', 'Edits and lookups' and 'Refusals': written from them and from neither side's code.
 
-use image::{Record, BANK, COMMON_GUID, HEADER, SYSTEM_GUID};
+use image::{BANK, COMMON_GUID, SYSTEM_GUID};
 
-use super::bank::{size, Bank, Slot, LIVE};
+use super::bank::{Bank, Slot};
 use super::list::Book;
 use crate::store::lent::call::{lent, Answer, Call};
 
@@ -82,21 +82,6 @@ impl Book {
 }
 
 impl Bank {
-    /// 24 and the live records' sizes.
-    pub fn live(&self) -> usize {
-        HEADER + self.live_records().map(size).sum::<usize>()
-    }
-
-    fn live_records(&self) -> impl Iterator<Item = &Record> {
-        self.records.iter().filter(|r| r.state == LIVE)
-    }
-
-    /// A third GUID counts in neither limit.
-    fn live_of(&self, guid: &[u8; 16]) -> usize {
-        let records = self.live_records().filter(|r| r.guid == *guid);
-        records.map(size).sum()
-    }
-
     /// What a move makes of it.
     fn moved(&self) -> Bank {
         let mut header = self.header.clone();
@@ -124,7 +109,7 @@ mod tests {
     use super::super::bank::PART;
     use super::*;
     use crate::store::lent::call::{What, ROOM};
-    use image::Header;
+    use image::{Header, Record};
 
     /// A bank of this size and generation, with a live record of 39 bytes and a dead one.
     fn bank(size: u32, generation: u32) -> Vec<u8> {

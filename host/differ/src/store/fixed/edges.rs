@@ -37,9 +37,9 @@ impl Edge {
         }
         let lookup = Call::new(What::Lookup, b"rate", 1);
         let insert = Call::new(What::Insert(b"x".to_vec()), b"rate", 1);
-        let commit = Call::commit(BANK);
+        let (figures, commit) = (Call::figures(), Call::commit(BANK));
         let whole = Call::whole(self.banks * BANK);
-        let mut run = Run::new(image, vec![lookup.clone(), insert, lookup, commit, whole]);
+        let mut run = Run::new(image, vec![lookup.clone(), insert, lookup, figures, commit, whole]);
         run.spare = self.spare;
         run
     }

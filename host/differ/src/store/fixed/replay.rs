@@ -30,6 +30,8 @@ const HEAD: &str = "\
 #   D TYPE KEY NUMBER                   remove
 #   L TYPE KEY NUMBER FOUND PLACE LENGTH
 #   V TYPE KEY LENGTH CRC               the value itself
+#   F NUMBER SYSTEM COMMON COUNT        what the active bank's records come to: live system ones
+#                      and live common ones in bytes, and how many there are, dead ones too
 #   C NUMBER ERASE AT OFFSET LENGTH CRC commit: ERASE is 1 where the bank at AT is to be erased,
 #                      else both are 0; the checksum is of the bytes to write
 #   A NUMBER LENGTH CRC                 the whole image, and the checksum of its bytes
@@ -104,6 +106,9 @@ fn line(call: &Call, answer: &Answer) -> Result<String, String> {
         (What::Value(_), Answer::Value(length, value)) if length <= &value.len() => {
             let crc = crc32fast::hash(&value[..*length]);
             format!("V {named} {length} {crc:08X}\n")
+        }
+        (_, Answer::Figures(number, [system, common, count])) => {
+            format!("F {number} {system} {common} {count}\n")
         }
         (_, Answer::Commit(number, [asked, at, offset, length], out)) => {
             let crc = crc32fast::hash(&out[..*length as usize]);

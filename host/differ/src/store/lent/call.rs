@@ -14,7 +14,7 @@ pub const NO_REQUEST: Asked = [0; 4];
 #[derive(Clone, Debug, PartialEq)]
 pub struct Call {
     pub what: What,
-    /// Of the variable; none in a commit or a whole image.
+    /// Of the variable; none in the figures, a commit or a whole image.
     pub key: Vec<u8>,
     /// 0 for Common, any other number for System.
     pub typ: u32,
@@ -28,6 +28,7 @@ pub enum What {
     Lookup,
     /// With the room for the value.
     Value(usize),
+    Figures,
     /// With the room for the output.
     Commit(usize),
     /// The same.
@@ -42,6 +43,7 @@ impl What {
             What::Remove => "removes",
             What::Lookup => "lookups",
             What::Value(_) => "values",
+            What::Figures => "figures",
             What::Commit(_) => "commits",
             What::Whole(_) => "whole images",
         }
@@ -57,6 +59,8 @@ pub enum Answer {
     Lookup(u32, [u64; 3]),
     /// Of a value: its length, and the room after the call.
     Value(usize, Vec<u8>),
+    /// Of the figures: the number; both sums and how many records.
+    Figures(u32, [u64; 3]),
     /// Of a commit: the number, the requests, the output after the call.
     Commit(u32, Asked, Vec<u8>),
     /// Of a whole image: the number, the length, the output after the call.
@@ -67,6 +71,10 @@ impl Call {
     pub fn new(what: What, key: &[u8], typ: u32) -> Self {
         let key = key.to_vec();
         Call { what, key, typ }
+    }
+
+    pub fn figures() -> Self {
+        Call::new(What::Figures, b"", 0)
     }
 
     pub fn commit(room: usize) -> Self {
@@ -83,6 +91,7 @@ impl Call {
             What::Insert(_) | What::Remove => Answer::Number(number),
             What::Lookup => Answer::Lookup(number, [0; 3]),
             What::Value(room) => Answer::Value(0, vec![ROOM; room]),
+            What::Figures => Answer::Figures(number, [0; 3]),
             What::Commit(room) => Answer::Commit(number, NO_REQUEST, vec![ROOM; room]),
             What::Whole(room) => Answer::Whole(number, 0, vec![ROOM; room]),
         }
@@ -161,6 +170,7 @@ impl Display for Call {
         match &self.what {
             What::Commit(room) => return write!(f, "commit with room for {room}"),
             What::Whole(room) => return write!(f, "whole image with room for {room}"),
+            What::Figures => return write!(f, "figures"),
             What::Insert(value) => write!(f, "insert of {}", hex(value))?,
             What::Remove => write!(f, "remove")?,
             What::Lookup => write!(f, "lookup")?,
@@ -178,6 +188,9 @@ impl Display for Answer {
                 write!(f, "{number}, found {found}, place {place}, length {length}")
             }
             Answer::Value(length, out) => write!(f, "length {length}, room {}", hex(out)),
+            Answer::Figures(number, [system, common, count]) => {
+                write!(f, "{number}, system {system}, common {common}, {count} records")
+            }
             Answer::Commit(number, [asked, at, offset, length], out) => {
                 write!(f, "{number}, erase {asked} at {at}, write at {offset}, ")?;
                 write!(f, "length {length}, output {}", hex(out))

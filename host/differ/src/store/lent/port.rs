@@ -133,6 +133,11 @@ impl Lent {
                 let (number, found) = with_numbers(lookup)?;
                 Answer::Lookup(number, found)
             }
+            What::Figures => {
+                let figures = |out: &mut _| feqyondil::lent::figures(state, work, out);
+                let (number, figures) = with_numbers(figures)?;
+                Answer::Figures(number, figures)
+            }
             What::Value(room) | What::Commit(room) | What::Whole(room) => {
                 self.with_room(call, &key, *room)?
             }

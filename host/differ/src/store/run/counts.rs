@@ -88,7 +88,9 @@ impl Counts {
                 self.add(ERASES, erases);
                 number
             }
-            Answer::Number(number) | Answer::Whole(number, ..) => number,
+            Answer::Number(number) | Answer::Figures(number, _) | Answer::Whole(number, ..) => {
+                number
+            }
         };
         self.numbers.add(number, 1);
     }

@@ -26,9 +26,10 @@ pub fn inside(image: &[u8]) -> bool {
 pub fn within(book: &Book, said: &Answer) -> bool {
     let bank = book.active_bank();
     match said {
-        Answer::Number(number) | Answer::Lookup(number, _) | Answer::Whole(number, ..) => {
-            *number == 0
-        }
+        Answer::Number(number)
+        | Answer::Lookup(number, _)
+        | Answer::Figures(number, _)
+        | Answer::Whole(number, ..) => *number == 0,
         Answer::Value(..) => bank.is_some(),
         Answer::Commit(12, ..) => bank.is_some_and(|b| b.header.size as usize == BANK),
         Answer::Commit(number, ..) => matches!(number, 0 | 9 | 10),

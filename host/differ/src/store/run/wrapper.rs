@@ -82,6 +82,13 @@ fn ask(store: &mut Store, call: &Call) -> Answer {
             let length = store.value(&call.key, typ, &mut out);
             Answer::Value(length, out)
         }
+        What::Figures => match store.figures() {
+            Ok(told) => {
+                let figures = [told.system, told.common, told.count];
+                Answer::Figures(0, figures.map(|figure| figure as u64))
+            }
+            Err(refusal) => call.refused(refusal.number()),
+        },
         What::Commit(room) => committed(store, vec![ROOM; *room]),
         What::Whole(room) => whole(store, vec![ROOM; *room]),
     }
