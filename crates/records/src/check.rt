@@ -1,5 +1,5 @@
-// Whether records are as they would be written: the walk of the check for refusal 6, which counts them where a commit asks (01, 'Refusals
-// from the state').
+// Whether records are as they would be written: the walk of the check for refusal 6 (01, 'Refusals from the state'), which adds up what they
+// come to where a commit or the figures ask (02, N3).
 use super::figures::Figures;
 use bank::VarHeader;
 use bank::Variable;
