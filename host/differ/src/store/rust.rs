@@ -204,11 +204,10 @@ mod tests {
     fn figures_are_its_own() {
         let image = image();
         let mut rust = Rust::open(&image).unwrap().unwrap();
-        let mut figures = || rust.answer(&Call::figures());
-        assert_eq!(figures(), Ok(Answer::Figures(0, [50, 0, 1])));
-        let insert = |typ| Call::new(What::Insert(b"x".to_vec()), b"rate", typ);
+        assert_eq!(rust.answer(&Call::figures()), Ok(Answer::Figures(0, [50, 0, 1])));
         for typ in [1, 0] {
-            rust.answer(&insert(typ)).unwrap();
+            let insert = Call::new(What::Insert(b"x".to_vec()), b"rate", typ);
+            rust.answer(&insert).unwrap();
         }
         assert_eq!(rust.answer(&Call::figures()), Ok(Answer::Figures(0, [42, 42, 3])));
     }
