@@ -99,7 +99,7 @@ added-below true f r n at end e l b =
     (omega (arith, e, b .0, cond-le (liveOf systemGuid r) n), omega (arith, e, b .1, cond-le (liveOf commonGuid r) n), omega (arith, e, l, b .2))
 added-below false f r n at end e l b = (omega (arith, e, b .0), omega (arith, e, b .1), omega (arith, e, b .2))
 
--- and so does its check
+-- the check of one record before others
 checked-more : (f g : List Record → Figures) (r : Record) → ((rs : List Record) → f rs ≡ g (r ∷ rs)) → (o : Option (List Record))
     → checked f o ≡ checked g (prepend r o)
 unfolding checked prepend

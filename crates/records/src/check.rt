@@ -60,7 +60,7 @@ fn next_record(t: &[u32; 4096], s: &[u8], at: usize) -> Next
         return Next::Stop;
     }
     let sum = crc32::crc32_with(t, &s[value..end]);
-    // Read after the sum, which would else be worked out with one register less.
+    // Read after the sum: before, it would be put on the stack and taken from there for the test.
     let stored = VarHeader::parse(rest);
     if stored.crc == sum {
         Next::Onward(end)

@@ -29,8 +29,8 @@ const MOVE: Call = ("commit with a move", rust_move, Lent::commit_moved);
 
 pub fn run(report: &mut Report) {
     report.say("call after call; the port first goes through its whole work area, 131,072 bytes");
-    report.say("a bank, and refuses what is not sound; the Rust trusts its memory, so its own");
-    report.say("get_variable, insert and remove only walk a list, and stand beside without a bar");
+    report.say("a bank, and refuses what is not sound; the Rust trusts its memory: its own");
+    report.say("lookup, sums, insert and remove only walk a list, and stand beside without a bar");
     cases(ROOM).iter().for_each(|case| calls(case, report));
 }
 
