@@ -14,11 +14,11 @@ use Rattle.records.specs.declared.edit.Found.{Found}
 use Rattle.records.specs.declared.figures.Figures.{Figures}
 use Rattle.book.specs.Edit.{Edit, insert, remove, editedBy, grows, refusedEdit}
 use Rattle.book.specs.Book.{partSize, Book, activeSlot, withRecords}
-use Rattle.book.specs.Commit.{Judged, due, judgeBank, nextBank, nextSlot, request, anyOverfull}
+use Rattle.book.specs.Commit.{Way, old, careful, Judged, due, judgeBank, nextBank, nextSlot, request, anyOverfull}
 use Rattle.book.specs.Call as call
 use Rattle.book.specs.Call.{Call, edit, lookup, fetch, figures, commit, wholeImage, Answer, looked, handed, summed, committed, joined, number, refusal, Outcome, stay, stayWith, change, bySlot, editAs, editBank, lookupBank, fetchBank, figuresBank, moveIn, commitAs, commitBank, commitTo, imageTo, step}
 use Rattle.book.proofs.JudgeLaws as judge-laws
-use Rattle.book.proofs.JudgeLaws.{Number, above-6, Decided, decided-bank, not-due, is-due}
+use Rattle.book.proofs.JudgeLaws.{Number, above-6, Decided, Fits, decided-bank, not-due, is-due}
 
 -- the calls that change nothing, and what they answer where they are accepted
 abbrev pub Reads : Call → Answer → Type 0
@@ -26,7 +26,7 @@ Reads (edit e) a = ⊥
 Reads (lookup key typ) a = (f : Option Found) × (a ≡ looked 0 f)
 Reads (fetch key typ) a = a ≡ handed
 Reads figures a = (f : Figures) × (a ≡ summed 0 f)
-Reads (commit room) a = ⊥
+Reads (commit way room) a = ⊥
 Reads (wholeImage room) a = (long : ℕ) × (a ≡ joined 0 long)
 
 -- an accepted edit
@@ -52,11 +52,12 @@ pub data Did (b : Book) : Call → Outcome → Type 0 where
   refuses : {c : Call} (k : ℕ) → Number k → Did b c (stay b (refusal c k))
   reads : {c : Call} (a : Answer) (x : List ℕ) → Reads c a → Did b c (stayWith b a x)
   edits : (e : Edit) (d : Edits b e) → Did b (edit e) (change b (withRecords (d .bank) (editedBy e (d .bank .records))))
-  writes : (room : ℕ) (d : Writes b) → Did b (commit room) (stayWith b (committed 0 none (b .active * bankSize) (d .bank .header .size)) (output (d .bank)))
-  moves : (room : ℕ) (d : Due b) → liveTotal (d .bank) ≤ d .bank .header .size
-      → Did b (commit room) (call.moves b (d .bank) (request (nextSlot b) (nextBank b)))
+  writes : (way : Way) (room : ℕ) (d : Writes b)
+      → Did b (commit way room) (stayWith b (committed 0 none (b .active * bankSize) (d .bank .header .size)) (output (d .bank)))
+  moves : (way : Way) (room : ℕ) (d : Due b) → liveTotal (d .bank) ≤ d .bank .header .size
+      → Did b (commit way room) (call.moves b (d .bank) (request (nextSlot b) (nextBank b)))
   overflows : (room : ℕ) (d : Due b) → d .bank .header .size < liveTotal (d .bank)
-      → Did b (commit room) (call.overflows b (d .bank) (request (nextSlot b) (nextBank b)))
+      → Did b (commit old room) (call.overflows b (d .bank) (request (nextSlot b) (nextBank b)))
 
 five : Number 5
 five = record { not-0 = λ e. omega arith; not-6 = λ e. omega arith }
@@ -80,20 +81,26 @@ module _ (b : Book) where
   edit-bank (remove key typ) k q = edits (remove key typ) record { bank = k; was = q; small = λ h. omega arith }
 
   module _ (room : ℕ) where
-    move-bank : (d : Due b) → Did b (commit room) (moveIn b (d .bank) (request (nextSlot b) (nextBank b)))
-    unfolding moveIn
-    move-bank d =
-        by-test (Did b (commit room)) (leb (liveTotal (d .bank)) (d .bank .header .size)) _ _ (λ t. moves room d (leb-true _ _ t))
-        (λ t. overflows room d (leb-false _ _ t))
+    -- 12 after a move is an old commit's
+    over-size : (way : Way) (d : Due b) → Fits way (d .bank) → d .bank .header .size < liveTotal (d .bank)
+        → Did b (commit way room) (call.overflows b (d .bank) (request (nextSlot b) (nextBank b)))
+    over-size old d f h = overflows room d h
+    over-size careful d f h = absurd (omega arith)
 
-    commit-bank : (k : Bank) → activeSlot b ≡ valid k → Did b (commit room) (commitBank b k)
+    move-bank : (way : Way) (d : Due b) → Fits way (d .bank) → Did b (commit way room) (moveIn b (d .bank) (request (nextSlot b) (nextBank b)))
+    unfolding moveIn
+    move-bank way d f =
+        by-test (Did b (commit way room)) (leb (liveTotal (d .bank)) (d .bank .header .size)) _ _ (λ t. moves way room d (leb-true _ _ t))
+        (λ t. over-size way d f (leb-false _ _ t))
+
+    commit-bank : (way : Way) (k : Bank) → activeSlot b ≡ valid k → Did b (commit way room) (commitBank b way k)
     unfolding commitBank commitAs
-    commit-bank k e = go (judgeBank k) (decided-bank k)
+    commit-bank way k e = go (judgeBank way k) (decided-bank way k)
       where
-        go : (j : Judged) → Decided (k .header) (due k) j → Did b (commit room) (commitAs b k j)
+        go : (j : Judged) → Decided (k .header) (due k) (Fits way k) j → Did b (commit way room) (commitAs b k j)
         go j (judge-laws.refuses n h) = refuses n h
-        go j (judge-laws.stays d) = writes room (record { bank = k; was = e; fits = not-due k d })
-        go j (judge-laws.moves d l) = move-bank (record { bank = k; was = e; due = is-due k d; left = l })
+        go j (judge-laws.stays d) = writes way room (record { bank = k; was = e; fits = not-due k d })
+        go j (judge-laws.moves d l f) = move-bank way (record { bank = k; was = e; due = is-due k d; left = l }) f
 
 pub did : (b : Book) (c : Call) → Did b c (step b c)
 unfolding step lookupBank fetchBank figuresBank commitTo imageTo
@@ -101,8 +108,9 @@ did b (edit e) = by-bank b (edit e) _ (edit-bank b e) (activeSlot b) refl
 did b (lookup key typ) = by-bank b (lookup key typ) _ (λ k e. reads {c = lookup key typ} _ [] (_, refl)) (activeSlot b) refl
 did b (fetch key typ) = by-bank b (fetch key typ) _ (λ k e. reads {c = fetch key typ} handed _ refl) (activeSlot b) refl
 did b figures = by-bank b figures _ (λ k e. reads {c = figures} _ [] (_, refl)) (activeSlot b) refl
-did b (commit room) =
-    by-test (Did b (commit room)) (ltb room bankSize) _ _ (λ t. refuses 5 five) (λ t. by-bank b (commit room) _ (commit-bank b room) (activeSlot b) refl)
+did b (commit way room) =
+    by-test (Did b (commit way room)) (ltb room bankSize) _ _ (λ t. refuses 5 five)
+    (λ t. by-bank b (commit way room) _ (commit-bank b room way) (activeSlot b) refl)
 did b (wholeImage room) =
     by-test (Did b (wholeImage room)) (ltb room (b .n * bankSize)) _ _ (λ t. refuses 5 five)
     (λ t. by-test (Did b (wholeImage room)) (anyOverfull (b .slots)) _ _ (λ t. refuses 13 (above-6 13 (omega arith)))
@@ -115,7 +123,7 @@ read-number (edit e) a r = absurd r
 read-number (lookup key typ) a r = ap number (r .1)
 read-number (fetch key typ) a r = ap number r
 read-number figures a r = ap number (r .1)
-read-number (commit room) a r = absurd r
+read-number (commit way room) a r = absurd r
 read-number (wholeImage room) a r = ap number (r .1)
 
 -- a refusal's is the one given; fetched bytes have none
@@ -124,5 +132,5 @@ refusal-number (edit e) k n h z = h
 refusal-number (lookup key typ) k n h z = h
 refusal-number (fetch key typ) k n h z = z
 refusal-number figures k n h z = h
-refusal-number (commit room) k n h z = h
+refusal-number (commit way room) k n h z = h
 refusal-number (wholeImage room) k n h z = h

@@ -5,4 +5,5 @@ pub mod OpenFine
 pub mod JudgeLaws
 pub mod Did
 pub mod StepLaws
+pub mod Careful
 pub mod RefusalLaws

@@ -16,7 +16,7 @@ use Rattle.records.proofs.RecordLists.{fine-select, sizes-select}
 use Rattle.book.specs.Edit.{editedBy, grows}
 use Rattle.book.specs.Book.{partSize, FineSlot, Book, FineBook, activeSlot, withActive, withRecords}
 use Rattle.book.specs.Commit.{moved, nextBank, movedBook}
-use Rattle.book.specs.Call.{Call, edit, lookup, fetch, figures, commit, wholeImage, ByteCall, Answer, number, Outcome, step}
+use Rattle.book.specs.Call.{Call, ByteCall, number, Follows, Outcome, step}
 use Rattle.book.proofs.EditedRecords.{sizes-edited, fine-edited}
 use Rattle.book.proofs.BookLaws.{part-size, fine-at, fine-set, fine-with}
 use Rattle.book.proofs.Did.{refuses, reads, edits, writes, moves, overflows, Did, did}
@@ -89,38 +89,21 @@ did-fine b c o y f (edits e d) =
     let h : total (d .bank) + grows e ≤ partSize = d .small (g .1) in
     changed-fine b (d .bank) (editedBy e (d .bank .records)) f g
     (fine-edited e (d .bank .records) y (omega (arith, part-size)) (g .0 .records-fine)) (omega (arith, sizes-edited e (d .bank .records)))
-did-fine b c o y f (writes room d) = f
-did-fine b c o y f (moves room d h) = moved-book-fine b (d .bank) f (active-bank b (d .bank) f (d .was)) (d .left)
+did-fine b c o y f (writes way room d) = f
+did-fine b c o y f (moves way room d h) = moved-book-fine b (d .bank) f (active-bank b (d .bank) f (d .was)) (d .left)
 did-fine b c o y f (overflows room d h) = moved-book-fine b (d .bank) f (active-bank b (d .bank) f (d .was)) (d .left)
 
 pub step-fine : (b : Book) (c : Call) → ByteCall c → FineBook b → FineBook (step b c .laid)
 step-fine b c y f = did-fine b c (step b c) y f (did b c)
 
--- the answers after which state and work area hold the book after the call: of a commit all but 12
-abbrev pub Follows : Call → Answer → Type 0
-Follows (edit e) a = Unit {0}
-Follows (lookup key typ) a = Unit {0}
-Follows (fetch key typ) a = Unit {0}
-Follows figures a = Unit {0}
-Follows (commit room) a = number a ≢ 12
-Follows (wholeImage room) a = Unit {0}
-
--- what is laid out is then the book after
-settled-did : (b : Book) (c : Call) (o : Outcome) → Follows c (o .answer) → Did b c o → o .laid ≡ o .after
+-- what is laid out is the book after, where the state follows the book
+settled-did : (b : Book) (c : Call) (o : Outcome) → Follows c (number (o .answer)) → Did b c o → o .laid ≡ o .after
 settled-did b c o h (refuses k n) = refl
 settled-did b c o h (reads a x n) = refl
 settled-did b c o h (edits e d) = refl
-settled-did b c o h (writes room d) = refl
-settled-did b c o h (moves room d l) = refl
-settled-did b c o h (overflows room d l) = absurd (h refl)
+settled-did b c o h (writes way room d) = refl
+settled-did b c o h (moves way room d l) = refl
+settled-did b c o h (overflows room d l) = absurd (h refl refl)
 
-pub settled : (b : Book) (c : Call) → Follows c (step b c .answer) → step b c .laid ≡ step b c .after
+pub settled : (b : Book) (c : Call) → Follows c (number (step b c .answer)) → step b c .laid ≡ step b c .after
 settled b c h = settled-did b c (step b c) h (did b c)
-
-pub follows : (c : Call) (a : Answer) → number a ≢ 12 → Follows c a
-follows (edit e) a h = tt
-follows (lookup key typ) a h = tt
-follows (fetch key typ) a h = tt
-follows figures a h = tt
-follows (commit room) a h = h
-follows (wholeImage room) a h = tt

@@ -1,7 +1,9 @@
--- Calls as data, and what each does to the book and answers (01, 'A commit, from the entry down', 'Edits and lookups', 'Refusals'; 02, N3).
+-- Calls as data, and what each does to the book and answers (01, 'A commit, from the entry down', 'Edits and lookups', 'Refusals'; 02, N3, N4).
 use Prim.Native.Nat.{ℕ, zero, suc, _+_, _*_}
+use mathlib.Core.Path.{_≡_}
+use mathlib.Core.Logic.{_≢_}
 use mathlib.Core.List.{List, []}
-use mathlib.Core.Bool.{cond}
+use mathlib.Core.Bool.{Bool, true, false, cond}
 use mathlib.Core.Option.{Option, none}
 use lib.Dec.{leb, ltb}
 use lib.ListN.{length}
@@ -15,7 +17,7 @@ use Rattle.records.specs.Match.{foundIn, valueIn}
 use Rattle.records.specs.Figures.{figuresOf, noFigures}
 use Rattle.book.specs.Edit.{Edit, ByteEdit, editedBy, refusedEdit}
 use Rattle.book.specs.Book.{partSize, Book, activeSlot, withActive, withRecords}
-use Rattle.book.specs.Commit.{Judged, refuse, inPlace, move, judgeBank, moved, nextBank, nextSlot, request, movedBook, imageOutput, anyOverfull}
+use Rattle.book.specs.Commit.{Way, old, careful, Judged, refuse, inPlace, move, judgeBank, moved, nextBank, nextSlot, request, movedBook, imageOutput, anyOverfull}
 
 -- lookup answers the place, fetch the bytes themselves, figures what the active bank's records come to; of a lent output a commit and a whole
 -- image see the length
@@ -24,7 +26,7 @@ pub data Call : Type 0 where
   lookup : List ℕ → VarType → Call
   fetch : List ℕ → VarType → Call
   figures : Call
-  commit : ℕ → Call
+  commit : Way → ℕ → Call
   wholeImage : ℕ → Call
 
 -- keys and values are bytes, as every slice is
@@ -33,7 +35,7 @@ ByteCall (edit e) = ByteEdit e
 ByteCall (lookup key typ) = Bytes key
 ByteCall (fetch key typ) = Bytes key
 ByteCall figures = Unit {0}
-ByteCall (commit room) = Unit {0}
+ByteCall (commit way room) = Unit {0}
 ByteCall (wholeImage room) = Unit {0}
 
 -- a refusal's number, 0 where accepted; a lookup that is accepted finds something or nothing; bytes that are fetched have no number; figures
@@ -70,7 +72,7 @@ refusal (edit e) k = edited k
 refusal (lookup key typ) k = looked k none
 refusal (fetch key typ) k = handed
 refusal figures k = summed k noFigures
-refusal (commit room) k = committed k none 0 0
+refusal (commit way room) k = committed k none 0 0
 refusal (wholeImage room) k = joined k 0
 
 -- an answer, the bytes handed back, the book after, and the book that state and work area hold after: another one where 12 keeps the move
@@ -125,7 +127,7 @@ moves b k e =
       laid = movedBook b k;
     }
 
--- 12 keeps the move and the erase request
+-- 12 after a move keeps it, and the erase request; a careful commit doesn't come to it
 abbrev pub overflows : Book → Bank → Option ℕ → Outcome
 overflows b k e = record { answer = committed 12 e 0 0; out = []; after = b; laid = movedBook b k }
 
@@ -138,12 +140,13 @@ commitAs b k (refuse n) = stay b (committed n none 0 0)
 commitAs b k inPlace = stayWith b (committed 0 none (b .active * bankSize) (k .header .size)) (output k)
 commitAs b k move = moveIn b k (request (nextSlot b) (nextBank b))
 
-unfoldable pub commitBank : Book → Bank → Outcome
-commitBank b k = commitAs b k (judgeBank k)
+unfoldable pub commitBank : Book → Way → Bank → Outcome
+commitBank b way k = commitAs b k (judgeBank way k)
 
 -- 5 where the output is too short
-unfoldable pub commitTo : Book → ℕ → Outcome
-commitTo b room = cond (ltb room bankSize) (stay b (refusal (commit room) 5)) (bySlot b (commit room) (commitBank b) (activeSlot b))
+unfoldable pub commitTo : Book → Way → ℕ → Outcome
+commitTo b way room =
+    cond (ltb room bankSize) (stay b (refusal (commit way room) 5)) (bySlot b (commit way room) (commitBank b way) (activeSlot b))
 
 -- 5, then 13 where a Valid bank has total > size
 unfoldable pub imageTo : Book → ℕ → Outcome
@@ -157,5 +160,19 @@ step b (edit e) = bySlot b (edit e) (editBank b e) (activeSlot b)
 step b (lookup key typ) = bySlot b (lookup key typ) (lookupBank b key typ) (activeSlot b)
 step b (fetch key typ) = bySlot b (fetch key typ) (fetchBank b key typ) (activeSlot b)
 step b figures = bySlot b figures (figuresBank b) (activeSlot b)
-step b (commit room) = commitTo b room
+step b (commit way room) = commitTo b way room
 step b (wholeImage room) = imageTo b room
+
+-- an old commit
+abbrev pub isOld : Call → Bool
+isOld (edit e) = false
+isOld (lookup key typ) = false
+isOld (fetch key typ) = false
+isOld figures = false
+isOld (commit old room) = true
+isOld (commit careful room) = false
+isOld (wholeImage room) = false
+
+-- no old commit that is refused by 12: after every other call state and work area hold the book after it
+abbrev pub Follows : Call → ℕ → Type 0
+Follows c k = isOld c ≡ true → k ≢ 12

@@ -1,4 +1,4 @@
--- A commit and the whole image on the book (01, 'A commit, from the entry down', 'Edits and lookups').
+-- A commit and the whole image on the book (01, 'A commit, from the entry down', 'Edits and lookups'; 02, N4).
 use Prim.Native.Nat.{ℕ, _+_, _*_, _%_}
 use mathlib.Core.List.{List, [], _∷_, _++_}
 use mathlib.Core.Bool.{Bool, false, _||_, cond}
@@ -8,9 +8,14 @@ use lib.Dec.{ltb, eqb}
 use Rattle.bank.specs.declared.header.StoreHeader.{StoreHeader}
 use Rattle.bank.specs.Record.{live}
 use Rattle.bank.specs.Bank.{Bank, Slot, empty, invalid, valid, bankSize, bankOf, output}
-use Rattle.bank.specs.Totals.{select, total}
+use Rattle.bank.specs.Totals.{select, total, liveTotal}
 use Rattle.records.specs.Figures.{systemUsed, commonUsed}
 use Rattle.book.specs.Book.{Book, withBank}
+
+-- a commit of the Rust's, or one that works out the live total before it moves (02, N4)
+pub data Way : Type 0 where
+  old : Way
+  careful : Way
 
 -- what a commit is to do: nothing, for a refusal; write the bank where it is; or move it
 pub data Judged : Type 0 where
@@ -25,12 +30,22 @@ judge h system common due =
     cond (ltb (h .«system_size») system) (refuse 9)
     (cond (ltb (h .«common_size») common) (refuse 10) (cond due (cond (eqb (h .generation) 4294967295) (refuse 11) move) inPlace))
 
+-- a careful commit's: besides, a move whose live total exceeds size: 12
+unfoldable pub carefully : ℕ → ℕ → Judged → Judged
+carefully live size (refuse n) = refuse n
+carefully live size inPlace = inPlace
+carefully live size move = cond (ltb size live) (refuse 12) move
+
+unfoldable pub judgeAs : Way → StoreHeader → ℕ → ℕ → ℕ → Bool → Judged
+judgeAs old h system common live due = judge h system common due
+judgeAs careful h system common live due = carefully live (h .size) (judge h system common due)
+
 -- a move is due unless total ≤ usable
 unfoldable pub due : Bank → Bool
 due k = ltb (k .usable) (total k)
 
-unfoldable pub judgeBank : Bank → Judged
-judgeBank k = judge (k .header) (systemUsed (k .records)) (commonUsed (k .records)) (due k)
+unfoldable pub judgeBank : Way → Bank → Judged
+judgeBank way k = judgeAs way (k .header) (systemUsed (k .records)) (commonUsed (k .records)) (liveTotal k) (due k)
 
 abbrev pub raised : StoreHeader → StoreHeader
 raised h =

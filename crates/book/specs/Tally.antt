@@ -17,5 +17,5 @@ tallied (edit e) a t = t
 tallied (lookup key typ) a t = t
 tallied (fetch key typ) a t = t
 tallied figures a t = t
-tallied (commit room) a t = counted (erase a) t
+tallied (commit way room) a t = counted (erase a) t
 tallied (wholeImage room) a t = t

@@ -17,7 +17,7 @@ use Rattle.bank.specs.Totals.{select, total, liveTotal, liveOf}
 use Rattle.book.specs.Book.{partSize, Book}
 use Rattle.book.specs.Opening.{readSlots, activeFrom, anyValid, Opened, opened, refused, opening}
 use Rattle.book.specs.Edit.{plain, insert, remove, editedBy, grows, refusedEdit}
-use Rattle.book.specs.Commit.{judge, due, judgeBank, request}
+use Rattle.book.specs.Commit.{old, judge, judgeAs, due, judgeBank, request}
 use Rattle.book.specs.Call.{edit, commit, Answer, edited, looked, handed, summed, committed, joined, number, bySlot, editAs, editBank, moveIn, commitAs, commitBank, commitTo, step}
 
 pub record Row : Type 0 where
@@ -105,8 +105,8 @@ table =
     -- P9 removing state 0x7F gives 0x7C; 0x7E stays
     ∷ (deletedState 0x7F ∷ deletedState 0x7E ∷ [] is 0x7C ∷ 0x7E ∷ [])
     -- P10 total = usable = 65,536 writes in place; 65,537 moves
-    ∷ (writes (step (filled 65536) (commit 65536) .answer) is 0 ∷ 0 ∷ [])
-    ∷ (writes (step (filled 65537) (commit 65536) .answer) is 0 ∷ 65536 ∷ [])
+    ∷ (writes (step (filled 65536) (commit old 65536) .answer) is 0 ∷ 0 ∷ [])
+    ∷ (writes (step (filled 65537) (commit old 65536) .answer) is 0 ∷ 65536 ∷ [])
     -- P11 36 zero bytes, then 0xFF: blank. P12 36 bytes 0xFF, then 0: usable = total + 36
     ∷ (totals (readBank (bank 65536 (replicate 36 0))) is 24 ∷ 65536 ∷ 0 ∷ [])
     ∷ (totals (readBank (bank 65536 (replicate 36 255 ++ (0 ∷ [])))) is 24 ∷ (24 + 36) ∷ 0 ∷ [])
@@ -117,5 +117,5 @@ Computed [] = Unit {0}
 Computed (r ∷ rs) = (r .got ≡ r .want) × Computed rs
 
 pub cases : Computed table
-unfolding table totals begins writes afterwards opening readSlots activeFrom anyValid bankSize partSize step bySlot editBank editAs refusedEdit editedBy grows moveIn commitAs commitBank commitTo judgeBank judge due request select liveTotal liveOf record-specs.live crc32Of byteSteps byteStep bitSteps bitStep polyIf allFF allBlank countFF eqBytes u16At u32At le32 headerBytes headerOf signed readHeader sizeOf sizes deletedState varHeaderBytes recordBytes recordOf padded found after walkTurn walk walkFrom usableAt slotOf erasedSlot afterHead readBank total
+unfolding table totals begins writes afterwards opening readSlots activeFrom anyValid bankSize partSize step bySlot editBank editAs refusedEdit editedBy grows moveIn commitAs commitBank commitTo judgeBank judgeAs judge due request select liveTotal liveOf record-specs.live crc32Of byteSteps byteStep bitSteps bitStep polyIf allFF allBlank countFF eqBytes u16At u32At le32 headerBytes headerOf signed readHeader sizeOf sizes deletedState varHeaderBytes recordBytes recordOf padded found after walkTurn walk walkFrom usableAt slotOf erasedSlot afterHead readBank total
 cases = (refl, (refl, (refl, (refl, (refl, (refl, (refl, (refl, (refl, (refl, (refl, (refl, (refl, (refl, (refl, (refl, tt))))))))))))))))

@@ -12,13 +12,14 @@ use borrow.Author.Tests.{lt-ltb, le-ltb}
 use Rattle.crc32.specs.Crc32.{Bytes}
 use Rattle.bank.specs.declared.header.StoreHeader.{StoreHeader}
 use Rattle.bank.specs.Bank.{Bank, Slot, invalid, valid, bankSize, partOf, output}
-use Rattle.bank.specs.Record.{sizes}
-use Rattle.bank.specs.Totals.{total}
+use Rattle.bank.specs.Record.{sizes, live}
+use Rattle.bank.specs.Totals.{total, liveTotal}
 use Rattle.records.specs.declared.figures.Figures.{Figures}
 use Rattle.records.specs.Figures.{figuresOf}
 use Rattle.records.specs.Checked.{recordsFigures}
+use Rattle.records.proofs.RecordLists.{sizes-select}
 use Rattle.book.specs.Book.{partSize, Book, activeSlot}
-use Rattle.book.specs.Commit.{Judged, refuse, inPlace, move, judge, due, judgeBank}
+use Rattle.book.specs.Commit.{Way, Judged, refuse, inPlace, move, judgeAs, due, judgeBank}
 use Rattle.book.specs.Call.{commit, committed, stayWith, bySlot, commitAs, commitBank, commitTo, step}
 use Rattle.book.proofs.JudgeLaws.{in-place-fits}
 use Rattle.nvram.specs.declared.state.Kind.the-variants.{Valid}
@@ -32,7 +33,7 @@ use Rattle.nvram.specs.Ready.{activeEntry}
 use Rattle.nvram.specs.Contract.{Does}
 use Rattle.nvram.proofs.SoundLaws.{active-summary}
 use Rattle.nvram.proofs.CallLaws.{does, by-7, by-valid}
-use Rattle.nvram.proofs.ActiveLaws.{Sound, book, viewed, state-is, work-is, fine, active-is, n-is, entry-is, does-refuse, bank, bank-is, bank-fine, total-is, usable-is}
+use Rattle.nvram.proofs.ActiveLaws.{Sound, book, viewed, state-is, work-is, fine, active-is, n-is, entry-is, does-refuse, bank, bank-is, bank-fine, total-is, total-high, usable-is}
 use Rattle.nvram.proofs.PlaceLaws.{after, part-here, bank-out}
 use Rattle.requests.specs.declared.Applied.{Applied}
 use Rattle.requests.specs.Applied.{applied}
@@ -58,19 +59,19 @@ module _ {s : Nvram} {w : List ℕ} (g : Sound s w) (v : activeEntry s .kind ≡
 
 -- the refusals before that
 
-enough : (b : Book) (room : ℕ) → 65536 ≤ room → step b (commit room) ≡ bySlot b (commit room) (commitBank b) (activeSlot b)
+enough : (b : Book) (way : Way) (room : ℕ) → 65536 ≤ room → step b (commit way room) ≡ bySlot b (commit way room) (commitBank b way) (activeSlot b)
 unfolding step commitTo bankSize
-enough b room h = simp (le-ltb room 65536 h)
+enough b way room h = simp (le-ltb room 65536 h)
 
-module _ {s : Nvram} {w : List ℕ} (g : Sound s w) (room : ℕ) where
-  pub does-5 : room < 65536 → Does (commit room) s w (committed 5 none 0 0) [] s w
+module _ {s : Nvram} {w : List ℕ} (g : Sound s w) (way : Way) (room : ℕ) where
+  pub does-5 : room < 65536 → Does (commit way room) s w (committed 5 none 0 0) [] s w
   unfolding step commitTo bankSize
-  does-5 h = does-refuse g (commit room) 5 (simp (lt-ltb room 65536 h))
+  does-5 h = does-refuse g (commit way room) 5 (simp (lt-ltb room 65536 h))
 
-  pub does-7 : 65536 ≤ room → (activeEntry s .kind ≡ Valid → ⊥) → Does (commit room) s w (committed 7 none 0 0) [] s w
+  pub does-7 : 65536 ≤ room → (activeEntry s .kind ≡ Valid → ⊥) → Does (commit way room) s w (committed 7 none 0 0) [] s w
   does-7 h v =
-      does-refuse g (commit room) 7
-      (enough (book g) room h ∙ by-7 (book g) (commit room) _ (activeSlot (book g)) (λ e. v (ap (λ (x : Entry). x .kind) (entry-is g) ∙ e)))
+      does-refuse g (commit way room) 7
+      (enough (book g) way room h ∙ by-7 (book g) (commit way room) _ (activeSlot (book g)) (λ e. v (ap (λ (x : Entry). x .kind) (entry-is g) ∙ e)))
 
 -- what is known when a commit of the active bank begins
 pub record ActiveKnown (s : Nvram) (w : List ℕ) (h : StoreHeader) : Type 0 where
@@ -97,39 +98,49 @@ module _ {s : Nvram} {w : List ℕ} {h : StoreHeader} (a : ActiveKnown s w h) wh
   pub size-high : h .size ≤ 65536
   size-high = omega (arith, size-is, bank-fine sound (a .active .kind) .0 .header-fine .size-high)
 
-  -- what the code judges is the active bank
-  pub judged : (f : Figures) (d : Bool) (j : Judged) → Used s w f → d ≡ ltb (activeEntry s .usable) (activeEntry s .total)
-      → j ≡ judge h (f .system) (f .common) d
-      → j ≡ judgeBank here
-  unfolding judgeBank figuresOf due total
-  judged f d j u q k =
-      let e = u b here (viewed sound) (bank-is sound (a .active .kind)) in
-      let r : d ≡ ltb (here .usable) (24 + sizes (here .records)) = q ∙ ap₂ ltb (usable-is sound (a .active .kind)) (total-is sound (a .active .kind)) in
-      k ∙ (λ i. judge (header-is i) (e i .system) (e i .common) (r i))
+  used-is : (f : Figures) → Used s w f → f ≡ figuresOf (here .records)
+  used-is f u = u b here (viewed sound) (bank-is sound (a .active .kind))
 
-  pub move-due : move ≡ judgeBank here → MoveDue s w
-  move-due e c k p q =
+  pub live-fits : (f : Figures) → Used s w f → 24 + f .live ≤ 131072
+  unfolding figuresOf
+  live-fits f u =
+      omega
+      (arith, ap (λ (x : Figures). x .live) (used-is f u), sizes-select live (here .records), total-is sound (a .active .kind), total-high sound (a .active .kind))
+
+  -- what the code judges is the active bank
+  pub judged : (way : Way) (f : Figures) (d : Bool) (j : Judged) → Used s w f → d ≡ ltb (activeEntry s .usable) (activeEntry s .total)
+      → j ≡ judgeAs way h (f .system) (f .common) (24 + f .live) d
+      → j ≡ judgeBank way here
+  unfolding judgeBank figuresOf due total liveTotal
+  judged way f d j u q k =
+      let e = used-is f u in
+      let r : d ≡ ltb (here .usable) (24 + sizes (here .records)) = q ∙ ap₂ ltb (usable-is sound (a .active .kind)) (total-is sound (a .active .kind)) in
+      k ∙ (λ i. judgeAs way (header-is i) (e i .system) (e i .common) (24 + e i .live) (r i))
+
+  pub move-due : (way : Way) → move ≡ judgeBank way here → MoveDue way s w
+  move-due way e c k p q =
       let x : some c ≡ some b = sym p ∙ viewed sound in
       let y : c ≡ b = cc in
       let z : valid k ≡ valid here = sym q ∙ ap activeSlot y ∙ bank-is sound (a .active .kind) in
       let u : k ≡ here = cc in
-      ap judgeBank u ∙ sym e
+      ap (judgeBank way) u ∙ sym e
 
-  module _ (room : ℕ) (wide : 65536 ≤ room) where
-    pub commit-step : step b (commit room) ≡ commitAs b here (judgeBank here)
+  module _ (way : Way) (room : ℕ) (wide : 65536 ≤ room) where
+    pub commit-step : step b (commit way room) ≡ commitAs b here (judgeBank way here)
     unfolding commitBank
-    commit-step = enough b room wide ∙ by-valid b (commit room) (commitBank b) here (bank-is sound (a .active .kind))
+    commit-step = enough b way room wide ∙ by-valid b (commit way room) (commitBank b way) here (bank-is sound (a .active .kind))
 
-    pub refuses : (n : ℕ) → refuse n ≡ judgeBank here → Does (commit room) s w (committed n none 0 0) [] s w
+    pub refuses : (n : ℕ) → refuse n ≡ judgeBank way here → Does (commit way room) s w (committed n none 0 0) [] s w
     unfolding commitAs
-    refuses n e = does-refuse sound (commit room) n (commit-step ∙ ap (commitAs b here) (sym e))
+    refuses n e = does-refuse sound (commit way room) n (commit-step ∙ ap (commitAs b here) (sym e))
 
-    pub stays : inPlace ≡ judgeBank here → Does (commit room) s w (committed 0 none (s .active * 65536) (h .size)) (take (h .size) (drop (s .active * 131072) w)) s w
+    pub stays : inPlace ≡ judgeBank way here
+        → Does (commit way room) s w (committed 0 none (s .active * 65536) (h .size)) (take (h .size) (drop (s .active * 131072) w)) s w
     unfolding commitAs bankSize
     stays e =
         let f = bank-fine sound (a .active .kind) .0 in
-        let r : total here ≤ here .header .size = omega (arith, in-place-fits here (sym e), f .usable-high) in
-        does (commit room) s w b (stayWith b (committed 0 none (b .active * bankSize) (here .header .size)) (output here)) _ _ s w (viewed sound) (commit-step ∙ ap (commitAs b here) (sym e))
+        let r : total here ≤ here .header .size = omega (arith, in-place-fits way here (sym e), f .usable-high) in
+        does (commit way room) s w b (stayWith b (committed 0 none (b .active * bankSize) (here .header .size)) (output here)) _ _ s w (viewed sound) (commit-step ∙ ap (commitAs b here) (sym e))
         (record {
           answer = ap₂ (λ (i n : ℕ). committed 0 none (i * 65536) n) (active-is sound) size-is;
           out = ap₂ (λ (n : ℕ) (l : List ℕ). take n l) size-is (active-part sound (a .active .kind)) ∙ bank-out here _ f r;
@@ -138,16 +149,16 @@ module _ {s : Nvram} {w : List ℕ} {h : StoreHeader} (a : ActiveKnown s w h) wh
         })
 
 -- what the code answers, by what it returns
-module _ {s s′ : Nvram} {w w′ : List ℕ} (o : List ℕ) (r : Applied) (e : Option ℕ) where
+module _ {way : Way} {s s′ : Nvram} {w w′ : List ℕ} (o : List ℕ) (r : Applied) (e : Option ℕ) where
   pub quiet : (n : ℕ) → (applied r ≡ committed n e 0 0) × (r .length ≡ 0) × (r .state ≡ s′)
-      → Does (commit (length o)) s w (committed n e 0 0) [] s′ w′ → Commits s w o r w′ o
+      → Does (commit way (length o)) s w (committed n e 0 0) [] s′ w′ → Commits way s w o r w′ o
   quiet n p d =
       (record { answer = p .0 ∙ d .answer; out = ap (λ (i : ℕ). take i o) (p .1) ∙ d .out; state = p .2 ∙ d .state; work = d .work }, refl)
 
   pub wrote : (o′ : List ℕ) (n : ℕ) → n ≤ 65536 → s′ .active * 131072 + 131072 ≤ length w′
       → (applied r ≡ committed 0 e (s′ .active * 65536) n) × (r .length ≡ n) × (r .state ≡ s′) × (o′ ≡ take n (drop (s′ .active * 131072) w′) ++ drop n o)
-      → Does (commit (length o)) s w (committed 0 e (s′ .active * 65536) n) (take n (drop (s′ .active * 131072) w′)) s′ w′
-      → Commits s w o r w′ o′
+      → Does (commit way (length o)) s w (committed 0 e (s′ .active * 65536) n) (take n (drop (s′ .active * 131072) w′)) s′ w′
+      → Commits way s w o r w′ o′
   wrote o′ n h k p d =
       let x = take n (drop (s′ .active * 131072) w′) in
       let l : length x ≡ n = length-take-le n (drop (s′ .active * 131072) w′) (omega (arith, length-drop (s′ .active * 131072) w′)) in

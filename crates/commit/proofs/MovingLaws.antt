@@ -18,7 +18,7 @@ use Rattle.bank.specs.Totals.{select, total, liveTotal}
 use Rattle.records.specs.Records.{Holds}
 use Rattle.records.proofs.RecordLists.{sizes-select}
 use Rattle.book.specs.Book.{partSize, FineSlot, Book}
-use Rattle.book.specs.Commit.{move, judgeBank, raised, moved, nextBank, nextSlot, request, movedBook}
+use Rattle.book.specs.Commit.{Way, move, judgeBank, raised, moved, nextBank, nextSlot, request, movedBook}
 use Rattle.book.specs.Call.{commit, committed, moves, overflows, moveIn, commitAs, step}
 use Rattle.book.specs.Tally.{counted}
 use Rattle.book.proofs.BookLaws.{part-size, part-times}
@@ -42,14 +42,14 @@ use Rattle.requests.specs.Applied.{movedState}
 use Rattle.commit.specs.Active.{MoveDue}
 use Rattle.commit.proofs.CommitLaws.{ActiveKnown, sound, header-is, size-is, commit-step}
 
--- the code moves the active bank, whose records stand from one place up to another
-pub record Moving (s : Nvram) (w : List ℕ) (h : StoreHeader) (from to : ℕ) : Type 0 where
+-- a commit of a way moves the active bank, whose records stand from one place up to another
+pub record Moving (way : Way) (s : Nvram) (w : List ℕ) (h : StoreHeader) (from to : ℕ) : Type 0 where
   pub known : ActiveKnown s w h
-  pub due : MoveDue s w
+  pub due : MoveDue way s w
   pub from-is : from ≡ s .active * 131072 + 24
   pub to-is : to ≡ s .active * 131072 + activeEntry s .total
 
-module _ {s : Nvram} {w : List ℕ} {h : StoreHeader} {from to : ℕ} (m : Moving s w h from to) where
+module _ {way : Way} {s : Nvram} {w : List ℕ} {h : StoreHeader} {from to : ℕ} (m : Moving way s w h from to) where
   abbrev g : Sound s w
   g = sound (m .known)
 
@@ -107,19 +107,19 @@ module _ {s : Nvram} {w : List ℕ} {h : StoreHeader} {from to : ℕ} (m : Movin
         apart = elsewhere;
       }
 
-  judged-move : judgeBank k ≡ move
+  judged-move : judgeBank way k ≡ move
   judged-move = m .due b k (viewed g) (bank-is g v)
 
   pub may-raise : h .generation < 4294967295
   may-raise =
       omega
-      (arith, ap (λ (x : StoreHeader). x .generation) (header-is (m .known)), move-grows k judged-move, bank-fine g v .0 .header-fine .generation-fits)
+      (arith, ap (λ (x : StoreHeader). x .generation) (header-is (m .known)), move-grows way k judged-move, bank-fine g v .0 .header-fine .generation-fits)
 
   new-fine : FineSlot (valid (moved k))
   unfolding total
   new-fine =
       let f = bank-fine g v in
-      (moved-fine k (f .0) (move-grows k judged-move), omega (arith, f .1, sizes-select live (k .records)))
+      (moved-fine k (f .0) (move-grows way k judged-move), omega (arith, f .1, sizes-select live (k .records)))
 
   -- what move_bank leaves of a header r: the total t and the work area w′
   abbrev pub Copied : StoreHeader → ℕ → List ℕ → Type 0
@@ -188,24 +188,24 @@ module _ {s : Nvram} {w : List ℕ} {h : StoreHeader} {from to : ℕ} (m : Movin
         omega (arith, new-active)
 
     module _ (room : ℕ) (wide : 65536 ≤ room) where
-      move-step : step b (commit room) ≡ moveIn b k e
+      move-step : step b (commit way room) ≡ moveIn b k e
       unfolding commitAs
-      move-step = commit-step (m .known) room wide ∙ ap (commitAs b k) judged-move ∙ ap (moveIn b k) (sym request-is)
+      move-step = commit-step (m .known) way room wide ∙ ap (commitAs b k) judged-move ∙ ap (moveIn b k) (sym request-is)
 
-      pub does-12 : h .size < t → Does (commit room) s w (committed 12 e 0 0) [] s′ w′
+      pub does-12 : h .size < t → Does (commit way room) s w (committed 12 e 0 0) [] s′ w′
       unfolding moveIn liveTotal
       does-12 o =
           let f : k .header .size < 24 + sizes (select live (k .records)) = omega (arith, total-left, size-is (m .known)) in
           let q : moveIn b k e ≡ overflows b k e = simp (lt-leb _ _ f) in
-          does (commit room) s w b (overflows b k e) (committed 12 e 0 0) [] s′ w′ (viewed g) (move-step ∙ q)
+          does (commit way room) s w b (overflows b k e) (committed 12 e 0 0) [] s′ w′ (viewed g) (move-step ∙ q)
           (record { answer = refl; out = refl; state = new-state; work = new-laid })
 
-      pub does-move : t ≤ h .size → Does (commit room) s w (committed 0 e (s′ .active * 65536) (h .size)) (take (h .size) (drop (s′ .active * 131072) w′)) s′ w′
+      pub does-move : t ≤ h .size → Does (commit way room) s w (committed 0 e (s′ .active * 65536) (h .size)) (take (h .size) (drop (s′ .active * 131072) w′)) s′ w′
       unfolding moveIn liveTotal total bankSize
       does-move o =
           let f : 24 + sizes (select live (k .records)) ≤ k .header .size = omega (arith, total-left, size-is (m .known)) in
           let q : moveIn b k e ≡ moves b k e = simp (le-leb _ _ f) in
-          does (commit room) s w b (moves b k e) _ _ s′ w′ (viewed g) (move-step ∙ q)
+          does (commit way room) s w b (moves b k e) _ _ s′ w′ (viewed g) (move-step ∙ q)
           (record {
             answer = ap₂ (λ (i n : ℕ). committed 0 e (i * 65536) n) (new-active ∙ next-is) (size-is (m .known));
             out = (λ j. take (size-is (m .known) j) (drop (new-active j * 131072) (new-work j)))

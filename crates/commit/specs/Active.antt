@@ -10,7 +10,7 @@ use Rattle.bank.specs.Bank.{Bank, valid}
 use Rattle.records.specs.declared.figures.Figures.{Figures}
 use Rattle.records.specs.Checked.{isSome}
 use Rattle.records.specs.Figures.{figuresOf}
-use Rattle.book.specs.Commit.{Judged, refuse, inPlace, move, judgeBank}
+use Rattle.book.specs.Commit.{Way, old, careful, Judged, refuse, inPlace, move, judgeBank}
 use Rattle.book.specs.Call.{commit}
 use Rattle.book.specs.Book.{Book, activeSlot}
 use Rattle.nvram.specs.declared.state.Kind.the-variants.{Valid}
@@ -20,7 +20,12 @@ use Rattle.nvram.specs.Ready.{activeEntry}
 use Rattle.nvram.specs.Contract.{Does}
 use Rattle.requests.specs.declared.Applied.{Applied}
 use Rattle.requests.specs.Applied.{applied}
+use Rattle.commit.specs.declared.Way as code-way
 use Rattle.commit.specs.declared.Judged as code
+
+abbrev pub wayOf : code-way.Way → Way
+wayOf code-way.the-variants.Old = old
+wayOf code-way.the-variants.Careful = careful
 
 abbrev pub verdict : code.Judged → Judged
 verdict (code.the-variants.Refuse n) = refuse n
@@ -42,10 +47,17 @@ abbrev pub Used : Nvram → List ℕ → Figures → Type 0
 Used s w f = ActiveHas s w (λ (k : Bank). f ≡ figuresOf (k .records))
 
 -- the active bank's commit is to move it
-abbrev pub MoveDue : Nvram → List ℕ → Type 0
-MoveDue s w = ActiveHas s w (λ (k : Bank). judgeBank k ≡ move)
+abbrev pub MoveDue : Way → Nvram → List ℕ → Type 0
+MoveDue way s w = ActiveHas s w (λ (k : Bank). judgeBank way k ≡ move)
+
+abbrev pub SomeMoveDue : Nvram → List ℕ → Type 0
+SomeMoveDue s w = (way : Way) × MoveDue way s w
 
 -- a commit of s and w with the output o answers r, and leaves the work area w′ and the output o′
-abbrev pub Commits : Nvram → List ℕ → List ℕ → Applied → List ℕ → List ℕ → Type 0
-Commits s w o r w′ o′ =
-    Does (commit (length o)) s w (applied r) (take (r .length) o′) (r .state) w′ × (drop (r .length) o′ ≡ drop (r .length) o)
+abbrev pub Commits : Way → Nvram → List ℕ → List ℕ → Applied → List ℕ → List ℕ → Type 0
+Commits way s w o r w′ o′ =
+    Does (commit way (length o)) s w (applied r) (take (r .length) o′) (r .state) w′ × (drop (r .length) o′ ≡ drop (r .length) o)
+
+-- the same, of every commit that is to move
+abbrev pub MoveCommits : Nvram → List ℕ → List ℕ → Applied → List ℕ → List ℕ → Type 0
+MoveCommits s w o r w′ o′ = (way : Way) → MoveDue way s w → Commits way s w o r w′ o′

@@ -1,4 +1,4 @@
-// The commit: 01, 'A commit, from the entry down'.
+// The commit: 01, 'A commit, from the entry down'; and the careful one: 02, N4.
 use bank::Partition;
 use bank::StoreHeader;
 use bank::Variable;
@@ -16,9 +16,15 @@ use requests::write;
 ghost use mathlib.Core.Path.{_≡_};
 ghost use Prim.Native.Nat.{_+_, _*_, _≤_, _<_};
 ghost use lib.ListN.{length};
-ghost use Rattle.book.specs.Commit.{judge as judgeOf, raised as raisedOf};
+ghost use Rattle.book.specs.Commit.{judge as judgeOf, carefully as carefullyOf, judgeAs, raised as raisedOf};
 ghost use Rattle.nvram.specs.Ready.{activeEntry};
-ghost use Rattle.commit.specs.Active.{verdict, Active, MoveDue, Used, Commits};
+ghost use Rattle.commit.specs.Active.{wayOf, verdict, Active, SomeMoveDue, Used, Commits, MoveCommits};
+
+// As the Rust commits, or with the live total worked out before a move, so that every refusal asks for nothing and changes nothing.
+pub enum Way {
+    Old,
+    Careful,
+}
 
 // Refused by a number, written where it is, or moved.
 enum Judged {
@@ -46,6 +52,37 @@ fn judge(header: StoreHeader, used: Figures, due: bool) -> Judged
     Judged::Move
 }
 
+// 12 where a move's live records, with the header, would be over the size.
+fn carefully(judged: Judged, live: usize, size: usize) -> Judged
+    ensures { λ r. ⌜ verdict r ≡ carefullyOf live size (verdict judged) ⌝ }
+{
+    match judged {
+        Judged::Refuse(number) => Judged::Refuse(number),
+        Judged::InPlace => Judged::InPlace,
+        Judged::Move => {
+            if size < live {
+                Judged::Refuse(12)
+            } else {
+                Judged::Move
+            }
+        }
+    }
+}
+
+fn judge_as(header: StoreHeader, used: Figures, due: bool, way: Way) -> Judged
+    requires { ⌜ 24 + used .live < 18446744073709551616 ⌝ }
+    ensures { λ r. ⌜ verdict r ≡ judgeAs (wayOf way) header (used .system) (used .common) (24 + used .live) due ⌝ }
+{
+    let judged = judge(header, used, due);
+    match way {
+        Way::Old => judged,
+        Way::Careful => {
+            let live = Variable::STORE_HEADER_SIZE + used.live;
+            carefully(judged, live, header.size as usize)
+        }
+    }
+}
+
 // The header of a move's new bank.
 fn raised(header: StoreHeader) -> StoreHeader
     requires { ⌜ header .generation < 4294967295 ⌝ }
@@ -56,7 +93,7 @@ fn raised(header: StoreHeader) -> StoreHeader
     next
 }
 
-// A commit that moves: the records stand from one place of the work area up to another.
+// A commit that moves, of either way: the records stand from one place of the work area up to another.
 fn move_on(
     state: Nvram,
     work: &mut [u8],
@@ -65,8 +102,8 @@ fn move_on(
     to: usize,
     header: StoreHeader,
 ) -> Applied
-    requires { ⌜ Active state (now work) header × MoveDue state (now work) × (from ≡ state .active * 131072 + 24) × (to ≡ state .active * 131072 + activeEntry state .total) × (65536 ≤ length (now output)) ⌝ }
-    ensures { λ r. ⌜ Commits state (now (work .entry)) (now (output .entry)) r (now (work .exit)) (now (output .exit)) ⌝ }
+    requires { ⌜ Active state (now work) header × SomeMoveDue state (now work) × (from ≡ state .active * 131072 + 24) × (to ≡ state .active * 131072 + activeEntry state .total) × (65536 ≤ length (now output)) ⌝ }
+    ensures { λ r. ⌜ MoveCommits state (now (work .entry)) (now (output .entry)) r (now (work .exit)) (now (output .exit)) ⌝ }
 {
     let next = (state.active as usize + 1) % state.n as usize;
     let entry = state.banks[next];
@@ -87,16 +124,17 @@ fn commit_active(
     output: &mut [u8],
     header: StoreHeader,
     used: Figures,
+    way: Way,
 ) -> Applied
     requires { ⌜ Active state (now work) header × Used state (now work) used × (65536 ≤ length (now output)) ⌝ }
-    ensures { λ r. ⌜ Commits state (now (work .entry)) (now (output .entry)) r (now (work .exit)) (now (output .exit)) ⌝ }
+    ensures { λ r. ⌜ Commits (wayOf way) state (now (work .entry)) (now (output .entry)) r (now (work .exit)) (now (output .exit)) ⌝ }
 {
     let i = state.active as usize;
     let entry = state.banks[i];
     let part = i * Nvram::PART_SIZE;
     let from = part + Variable::STORE_HEADER_SIZE;
     let to = part + entry.total as usize;
-    match judge(header, used, entry.usable < entry.total) {
+    match judge_as(header, used, entry.usable < entry.total, way) {
         Judged::Refuse(number) => refused(state, number, Erase::Nothing),
         Judged::InPlace => write(state, work, output, header.size as usize, Erase::Nothing),
         Judged::Move => move_on(state, work, output, from, to, header),
@@ -104,8 +142,8 @@ fn commit_active(
 }
 
 // 6, 5, 7, then the active bank's own refusals.
-pub fn apply(state: Nvram, work: &mut [u8], output: &mut [u8]) -> Applied
-    ensures { λ r. ⌜ Commits state (now (work .entry)) (now (output .entry)) r (now (work .exit)) (now (output .exit)) ⌝ }
+pub fn apply(state: Nvram, work: &mut [u8], output: &mut [u8], way: Way) -> Applied
+    ensures { λ r. ⌜ Commits (wayOf way) state (now (work .entry)) (now (output .entry)) r (now (work .exit)) (now (output .exit)) ⌝ }
 {
     let checked = check(state, work);
     if !checked.sound {
@@ -123,6 +161,6 @@ pub fn apply(state: Nvram, work: &mut [u8], output: &mut [u8]) -> Applied
     match kind {
         Kind::Empty => refused(state, 7, Erase::Nothing),
         Kind::Invalid => refused(state, 7, Erase::Nothing),
-        Kind::Valid => commit_active(state, work, output, header, used),
+        Kind::Valid => commit_active(state, work, output, header, used, way),
     }
 }

@@ -1,21 +1,18 @@
--- A run through the exports meets demand 3 (`exported-3`, to be read: nothing cites it): the state that its bytes hold after each call is the
--- definition's (`follow`), so that `demand-3` is of the same run.
+-- A run through the exports meets demand 3 in both readings (`exported-01`, `exported-N4`, to be read: nothing cites them): the state that its bytes
+-- hold after each call is the definition's (`follow`), so that what is claimed of every run is of the same run (`exported-3`).
 use Prim.Native.Nat.{ℕ, zero, suc, _-_, _<_}
 use mathlib.Core.Path.{_≡_, refl, sym, ap, _∙_, subst}
 use mathlib.Core.List.{List, [], _∷_, _++_, map}
-use mathlib.Core.Logic.{_≢_}
-use mathlib.Core.Bool.{Bool, true, false, cond}
+use mathlib.Core.Bool.{Bool, true, false, cond, true≢false}
 use mathlib.Core.Option.{Option, none, some}
 use native.Mathlib.Omega.{arith}
 use lib.ListN.{length, replicate, length-append, length-map, length-replicate}
 use lib.Dec.{leb}
-use Rattle.bank.specs.declared.variable.VarType.{VarType}
 use Rattle.bank.specs.Bank.{Slot, empty, invalid, valid}
 use Rattle.book.specs.Book.{Book, FineBook, FineSlots}
 use Rattle.book.specs.Opening.{Opened, opening}
-use Rattle.book.specs.Call.{Call, edit, lookup, fetch, figures, commit, wholeImage, ByteCall, Answer, number, erase, Outcome, step}
+use Rattle.book.specs.Call.{Call, edit, lookup, fetch, figures, commit, wholeImage, ByteCall, Answer, number, erase, step, isOld, Follows}
 use Rattle.book.specs.Tally.{Tally, counted, tallied}
-use Rattle.book.proofs.Did.{refuses, reads, Did, did}
 use Rattle.book.proofs.BookLaws.{part-size}
 use Rattle.book.proofs.StepLaws.{step-fine}
 use Rattle.nvram.specs.declared.state.Kind.the-variants.{Empty}
@@ -26,13 +23,15 @@ use Rattle.nvram.specs.Layout.{layTable, layState, view}
 use Rattle.nvram.specs.Contract.{onBook, call, Does, Begun, begun}
 use Rattle.nvram.proofs.KeepLaws.{Kept, keeps}
 use Rattle.run.specs.Run as run
+use Rattle.run.specs.Wear.{allCommits, acceptedCommits}
 use Rattle.run.proofs.EachLaws.{each-none, each-more}
 use Rattle.run.proofs.Start.{starts}
-use Rattle.run.proofs.Demand.{demand-3}
+use Rattle.run.specs.Demand.{Claim, Careful}
+use Rattle.run.proofs.Demand.{reading-01, reading-N4}
 use Rattle.state_bytes.specs.State.{stateSize, stored, readState, FineEntries, FineState}
 use Rattle.state_bytes.proofs.StateLaws.{stored-back}
 use Rattle.exports.specs.Store.{BytesAfter, onState, exported, Tells, Calls, Start, stated, start, ExportOpens}
-use Rattle.exports.specs.ExportRun.{ExportEvent, ExportRun, refusedBy, ExportNever, Same, AllSame, ExportClaim}
+use Rattle.exports.specs.ExportRun.{ExportEvent, ExportRun, ExportKeeps, Same, AllSame, ExportClaim, ExportClaim01, ExportClaimN4}
 
 -- what is laid out of a book fits into the state's bytes
 
@@ -70,7 +69,7 @@ tallied-fits (edit e) a t h = h
 tallied-fits (lookup key typ) a t h = h
 tallied-fits (fetch key typ) a t h = h
 tallied-fits figures a t h = h
-tallied-fits (commit room) a t h = counted-fits (erase a) t h
+tallied-fits (commit way room) a t h = counted-fits (erase a) t h
 tallied-fits (wholeImage room) a t h = h
 
 -- the bytes hold a state, and the state a book
@@ -81,25 +80,22 @@ record StateAt (bs w : List ℕ) (s : Nvram) : Type 0 where
   fine : FineBook book
   tally : s .tally < 4294967296
 
-record Followed (s : Nvram) (w : List ℕ) (es : List ExportEvent) : Type 0 where
-  events : List run.Event
-  runs : run.Run s w events
-  same : AllSame es events
-  never : ExportNever 12 es → (b : Book) → run.Never 12 (run.pages b events)
+-- a rule that a call keeps with what its function returned, it keeps with its answer's number
+abbrev Carries : (Call → ℕ → Type 0) → Type 0
+Carries Keeps =
+    (c : Call) (a : Answer) (x o : List ℕ) (r : ℕ) (q o′ : List ℕ) → Tells c a x o r q o′ → Keeps c r → Keeps c (number a)
 
--- fetched bytes have no number
-fetch-number : (b : Book) (key : List ℕ) (typ : VarType) (o : Outcome) → Did b (fetch key typ) o → number (o .answer) ≡ 0
-fetch-number b key typ o (refuses k n) = refl
-fetch-number b key typ o (reads a x r) = ap number r
+-- an old commit's function returns the number
+old-number : (c : Call) (a : Answer) (x o : List ℕ) (r : ℕ) (q o′ : List ℕ) → Tells c a x o r q o′ → isOld c ≡ true → r ≡ number a
+old-number (edit e) a x o r q o′ t h = t .0
+old-number (lookup key typ) a x o r q o′ t h = t .0
+old-number (fetch key typ) a x o r q o′ t h = absurd (true≢false (sym h))
+old-number figures a x o r q o′ t h = t .0
+old-number (commit way room) a x o r q o′ t h = t .returned
+old-number (wholeImage room) a x o r q o′ t h = t .returned
 
-not-12 : (b : Book) (c : Call) (x o : List ℕ) (r : ℕ) (q o′ : List ℕ) → Tells c (step b c .answer) x o r q o′ → refusedBy c r ≢ 12
-    → number (step b c .answer) ≢ 12
-not-12 b (edit e) x o r q o′ t h p = h (t .0 ∙ p)
-not-12 b (lookup key typ) x o r q o′ t h p = h (t .0 ∙ p)
-not-12 b (fetch key typ) x o r q o′ t h p = absurd (omega (arith, fetch-number b key typ (step b (fetch key typ)) (did b (fetch key typ))))
-not-12 b figures x o r q o′ t h p = h (t .0 ∙ p)
-not-12 b (commit room) x o r q o′ t h p = h (t .returned ∙ p)
-not-12 b (wholeImage room) x o r q o′ t h p = h (t .returned ∙ p)
+follows-carries : Carries Follows
+follows-carries c a x o r q o′ t f h p = f h (old-number c a x o r q o′ t h ∙ p)
 
 module _ (bs w : List ℕ) (s : Nvram) (a : StateAt bs w s) (e : ExportEvent) (y : ByteCall (e .call))
     (d : Calls (e .call) bs w (e .lent) (e .returned) (e .fields) (e .state) (e .work) (e .output)) where
@@ -150,24 +146,27 @@ module _ (bs w : List ℕ) (s : Nvram) (a : StateAt bs w s) (e : ExportEvent) (y
   unfolding onState event
   same = record { call = refl; tells = subst Told after (d .tells); state = state-read; work = refl }
 
-  never-12 : refusedBy c (e .returned) ≢ 12 → number (event .answer) ≢ 12
-  never-12 h p =
-      not-12 (a .book) c (event .out) (e .lent) (e .returned) (e .fields) (e .output)
-      (subst (λ (x : Answer). Tells c x (event .out) (e .lent) (e .returned) (e .fields) (e .output)) (kept .answer) (same .tells)) h (sym (ap number (kept .answer)) ∙ p)
+-- a list of calls, as a run whose calls keep the rule
+module _ (Keeps : Call → ℕ → Type 0) (carries : Carries Keeps) where
+  record Followed (s : Nvram) (w : List ℕ) (es : List ExportEvent) : Type 0 where
+    events : List run.Event
+    runs : run.Run s w events
+    same : AllSame es events
+    keeps : (b : Book) → run.Each (run.pages b events) (λ earlier p. Keeps (p .event .call) (number (p .event .answer)))
 
-follow : (bs w : List ℕ) (s : Nvram) (es : List ExportEvent) → StateAt bs w s → ExportRun bs w es → Followed s w es
-unfolding event run.pages
-follow bs w s [] a r = record { events = []; runs = tt; same = tt; never = λ h b. each-none _ }
-follow bs w s (e ∷ es) a r =
-    let y = r .0 in
-    let d = r .1 in
-    let m = follow (e .state) (e .work) (event bs w s a e y d .state) es (next bs w s a e y d) (r .2) in
-    record {
-      events = event bs w s a e y d ∷ m .events;
-      runs = (y, does bs w s a e y d, m .runs);
-      same = (same bs w s a e y d, m .same);
-      never = λ h b. each-more _ _ _ (never-12 bs w s a e y d (h .0)) (m .never (h .1) (step b (e .call) .after));
-    }
+  follow : (bs w : List ℕ) (s : Nvram) (es : List ExportEvent) → StateAt bs w s → ExportRun bs w es → ExportKeeps Keeps es → Followed s w es
+  unfolding event run.pages
+  follow bs w s [] a r h = record { events = []; runs = tt; same = tt; keeps = λ b. each-none _ }
+  follow bs w s (e ∷ es) a r h =
+      let y = r .0 in
+      let d = r .1 in
+      let m = follow (e .state) (e .work) (event bs w s a e y d .state) es (next bs w s a e y d) (r .2) (h .1) in
+      record {
+        events = event bs w s a e y d ∷ m .events;
+        runs = (y, does bs w s a e y d, m .runs);
+        same = (same bs w s a e y d, m .same);
+        keeps = λ b. each-more _ _ _ (carries _ _ _ _ _ _ _ (same bs w s a e y d .tells) (h .0)) (m .keeps (step b (e .call) .after));
+      }
 
 -- an opening that is accepted had bytes enough for the state
 begins : (image bs w bs′ w′ : List ℕ) → ExportOpens image bs w 0 bs′ w′
@@ -186,9 +185,9 @@ begins image bs w bs′ w′ o = go (leb stateSize (length bs)) (o .number) (o .
     go true n s v = (sym n, s, v)
     go false n s v = absurd (omega arith)
 
-pub exported-3 : ExportClaim
+exported-3 : (Keeps : Call → ℕ → Type 0) (counts : ℕ → Bool) → Carries Keeps → Claim Keeps counts → ExportClaim Keeps counts
 unfolding begun
-exported-3 image bs w bs′ w′ es y o r h =
+exported-3 Keeps counts carries claim image bs w bs′ w′ es y o r h =
     let x = begun (opening image (length w)) w in
     let b = begins image bs w bs′ w′ o in
     let opens : run.Opens image w (x .state) w′ = record { bytes = y; accepted = b .0; state = refl; left = b .2 } in
@@ -198,7 +197,7 @@ exported-3 image bs w bs′ w′ es y o r h =
     ap readState (b .1) ∙ stored-back (x .state) bs (subst FineState (sym s) (laid-fine (run.openedBook image) 0 (t .fine) (omega arith))) in
     let a : StateAt bs′ w′ (x .state) =
     record { read = read; book = run.openedBook image; viewed = t .viewed; fine = t .fine; tally = omega (arith, t .tally) } in
-    let m = follow bs′ w′ (x .state) es a r in
+    let m = follow Keeps carries bs′ w′ (x .state) es a r h in
     record {
       state = x .state;
       read = read;
@@ -206,5 +205,11 @@ exported-3 image bs w bs′ w′ es y o r h =
       opens = opens;
       runs = m .runs;
       same = m .same;
-      demand = demand-3 image w (x .state) w′ (m .events) opens (m .runs) (m .never h (run.openedBook image));
+      demand = claim image w (x .state) w′ (m .events) opens (m .runs) (m .keeps (run.openedBook image));
     }
+
+pub exported-01 : ExportClaim01
+exported-01 = exported-3 Follows allCommits follows-carries reading-01
+
+pub exported-N4 : ExportClaimN4
+exported-N4 = exported-3 Careful acceptedCommits (λ c a x o r q o′ t h. h) reading-N4

@@ -1,14 +1,15 @@
 -- Demand 3 of a run through the exports, where the state travels as bytes: it is a run of run/specs/Run, and that meets run/specs/Demand.
 use Prim.Native.Nat.{ℕ}
 use mathlib.Core.Path.{_≡_}
-use mathlib.Core.Logic.{_≢_}
 use mathlib.Core.List.{List, [], _∷_}
 use mathlib.Core.Option.{some}
+use mathlib.Core.Bool.{Bool}
 use Rattle.crc32.specs.Crc32.{Bytes}
-use Rattle.book.specs.Call.{Call, edit, lookup, fetch, figures, commit, wholeImage, ByteCall}
+use Rattle.book.specs.Call.{Call, ByteCall, Follows}
 use Rattle.nvram.specs.declared.state.Nvram.{Nvram}
 use Rattle.run.specs.Run as run
-use Rattle.run.specs.Demand.{Demand3}
+use Rattle.run.specs.Wear.{allCommits, acceptedCommits}
+use Rattle.run.specs.Demand.{Demand3, Careful}
 use Rattle.state_bytes.specs.State.{readState}
 use Rattle.exports.specs.Store.{Tells, Calls, ExportOpens}
 
@@ -29,18 +30,10 @@ ExportRun bs w [] = Unit {0}
 ExportRun bs w (e ∷ es) =
     ByteCall (e .call) × Calls (e .call) bs w (e .lent) (e .returned) (e .fields) (e .state) (e .work) (e .output) × ExportRun (e .state) (e .work) es
 
--- the refusal's number in what a function returns, or 0: a value's call returns a length
-abbrev pub refusedBy : Call → ℕ → ℕ
-refusedBy (edit e) r = r
-refusedBy (lookup key typ) r = r
-refusedBy (fetch key typ) r = 0
-refusedBy figures r = r
-refusedBy (commit room) r = r
-refusedBy (wholeImage room) r = r
-
-abbrev pub ExportNever : ℕ → List ExportEvent → Type 0
-ExportNever n [] = Unit {0}
-ExportNever n (e ∷ es) = (refusedBy (e .call) (e .returned) ≢ n) × ExportNever n es
+-- each call keeps a rule with what its function returned
+abbrev pub ExportKeeps : (Call → ℕ → Type 0) → List ExportEvent → Type 0
+ExportKeeps Keeps [] = Unit {0}
+ExportKeeps Keeps (e ∷ es) = Keeps (e .call) (e .returned) × ExportKeeps Keeps es
 
 -- an event of demand 3 that is the same call: the caller is told its answer and its bytes, and its state is what the bytes hold
 pub record Same (e : ExportEvent) (f : run.Event) : Type 0 where
@@ -55,17 +48,26 @@ AllSame [] (f ∷ fs) = ⊥
 AllSame (e ∷ es) [] = ⊥
 AllSame (e ∷ es) (f ∷ fs) = Same e f × AllSame es fs
 
-pub record Exported3 (image w bs′ w′ : List ℕ) (es : List ExportEvent) : Type 0 where
+pub record Exported3 (counts : ℕ → Bool) (image w bs′ w′ : List ℕ) (es : List ExportEvent) : Type 0 where
   pub state : Nvram
   pub read : readState bs′ ≡ some state
   pub events : List run.Event
   pub opens : run.Opens image w state w′
   pub runs : run.Run state w′ events
   pub same : AllSame es events
-  pub demand : Demand3 image (run.pages (run.openedBook image) events)
+  pub demand : Demand3 image counts (run.pages (run.openedBook image) events)
 
--- an accepted opening, a list of exported calls, and none of them refused by 12
-abbrev pub ExportClaim : Type 0
-ExportClaim =
-    (image bs w bs′ w′ : List ℕ) (es : List ExportEvent) → Bytes image → ExportOpens image bs w 0 bs′ w′ → ExportRun bs′ w′ es → ExportNever 12 es
-    → Exported3 image w bs′ w′ es
+-- of an accepted opening and a list of exported calls
+abbrev pub ExportClaim : (Call → ℕ → Type 0) → (ℕ → Bool) → Type 0
+ExportClaim Keeps counts =
+    (image bs w bs′ w′ : List ℕ) (es : List ExportEvent) → Bytes image → ExportOpens image bs w 0 bs′ w′ → ExportRun bs′ w′ es
+    → ExportKeeps Keeps es
+    → Exported3 counts image w bs′ w′ es
+
+-- 01's reading and 02's (N4), as in run/specs/Demand
+
+abbrev pub ExportClaim01 : Type 0
+ExportClaim01 = ExportClaim Follows allCommits
+
+abbrev pub ExportClaimN4 : Type 0
+ExportClaimN4 = ExportClaim Careful acceptedCommits

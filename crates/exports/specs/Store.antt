@@ -78,7 +78,7 @@ Tells (edit e) a x o r q o′ = (r ≡ number a) × (q ≡ []) × (o′ ≡ o)
 Tells (lookup key typ) a x o r q o′ = (r ≡ number a) × (q ≡ fieldsOf a) × (o′ ≡ o)
 Tells (fetch key typ) a x o r q o′ = (r ≡ length x) × (q ≡ []) × (o′ ≡ onto x o)
 Tells figures a x o r q o′ = (r ≡ number a) × (q ≡ fieldsOf a) × (o′ ≡ o)
-Tells (commit room) a x o r q o′ = Written a x o r q o′
+Tells (commit way room) a x o r q o′ = Written a x o r q o′
 Tells (wholeImage room) a x o r q o′ = Written a x o r q o′
 
 -- the contract of every exported call: what it tells, the state's bytes bs′ and the work area w′ are those of the definition

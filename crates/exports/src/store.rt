@@ -1,5 +1,6 @@
 // The store's calls. The state travels as bytes, of which `state_bytes` has the layout.
 use bank::VarType;
+use commit::Way;
 use requests::Applied;
 use requests::Erase;
 use state_bytes::STATE;
@@ -13,9 +14,11 @@ ghost use mathlib.Core.Path.{_≡_};
 ghost use mathlib.Core.List.{[]};
 ghost use lib.ListN.{length};
 ghost use Rattle.book.specs.Edit.{plain, insert, remove};
+ghost use Rattle.book.specs.Commit.{old, careful};
 ghost use Rattle.book.specs.Call.{edit, lookup, fetch, figures, commit, wholeImage, number as numberOf};
 ghost use Rattle.variables.specs.LookupAnswer.{lookupAnswer};
 ghost use Rattle.requests.specs.Applied.{applied};
+ghost use Rattle.commit.specs.Active.{wayOf};
 ghost use Rattle.exports.specs.Store.{varTypeOf, fieldsOf, Calls, ExportOpens};
 
 fn var_type(typ: u32) -> VarType
@@ -170,6 +173,28 @@ fn requests(answer: Applied) -> [u64; 4]
     }
 }
 
+fn commit_as(
+    state: &mut [u8],
+    work: &mut [u8],
+    output: &mut [u8],
+    out: &mut [u64; 4],
+    way: Way,
+) -> u32
+    ensures { λ r. ⌜ Calls (commit (wayOf way) (length (now (output .entry)))) (now (state .entry)) (now (work .entry)) (now (output .entry)) r (now (out .exit)) (now (state .exit)) (now (work .exit)) (now (output .exit)) ⌝ }
+{
+    let loaded = load(state);
+    if !loaded.ok {
+        *out = [0; 4];
+        return 6;
+    }
+    let before = loaded.state;
+    let answer = commit::apply(before, work, output, way);
+    let after = answer.state;
+    store(after, state);
+    *out = requests(answer);
+    answer.number
+}
+
 // Puts what is to be written into the output, and says what to erase and where to write it.
 #[no_mangle]
 pub extern "C" fn feqyondil_commit(
@@ -178,19 +203,22 @@ pub extern "C" fn feqyondil_commit(
     output: &mut [u8],
     out: &mut [u64; 4],
 ) -> u32
-    ensures { λ r. ⌜ Calls (commit (length (now (output .entry)))) (now (state .entry)) (now (work .entry)) (now (output .entry)) r (now (out .exit)) (now (state .exit)) (now (work .exit)) (now (output .exit)) ⌝ }
+    ensures { λ r. ⌜ Calls (commit old (length (now (output .entry)))) (now (state .entry)) (now (work .entry)) (now (output .entry)) r (now (out .exit)) (now (state .exit)) (now (work .exit)) (now (output .exit)) ⌝ }
 {
-    let loaded = load(state);
-    if !loaded.ok {
-        *out = [0; 4];
-        return 6;
-    }
-    let before = loaded.state;
-    let answer = commit::apply(before, work, output);
-    let after = answer.state;
-    store(after, state);
-    *out = requests(answer);
-    answer.number
+    commit_as(state, work, output, out, Way::Old)
+}
+
+// The same, but a refusal asks for nothing and leaves all as it was.
+#[no_mangle]
+pub extern "C" fn feqyondil_careful_commit(
+    state: &mut [u8],
+    work: &mut [u8],
+    output: &mut [u8],
+    out: &mut [u64; 4],
+) -> u32
+    ensures { λ r. ⌜ Calls (commit careful (length (now (output .entry)))) (now (state .entry)) (now (work .entry)) (now (output .entry)) r (now (out .exit)) (now (state .exit)) (now (work .exit)) (now (output .exit)) ⌝ }
+{
+    commit_as(state, work, output, out, Way::Careful)
 }
 
 // Joins the Valid banks in the output, and says how long they are.

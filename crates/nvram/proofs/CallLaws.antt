@@ -43,7 +43,7 @@ refusal-tally (edit e) k t = refl
 refusal-tally (lookup key typ) k t = refl
 refusal-tally (fetch key typ) k t = refl
 refusal-tally figures k t = refl
-refusal-tally (commit room) k t = refl
+refusal-tally (commit way room) k t = refl
 refusal-tally (wholeImage room) k t = refl
 
 -- what a call leaves, by the book's outcome
@@ -77,7 +77,7 @@ OnActive (edit e) = Unit {0}
 OnActive (lookup key typ) = Unit {0}
 OnActive (fetch key typ) = Unit {0}
 OnActive figures = Unit {0}
-OnActive (commit room) = ⊥
+OnActive (commit way room) = ⊥
 OnActive (wholeImage room) = ⊥
 
 -- refused by 7: the active slot isn't Valid
@@ -93,7 +93,7 @@ step-7 b (edit e) u h = by-7 b (edit e) _ (activeSlot b) h
 step-7 b (lookup key typ) u h = by-7 b (lookup key typ) _ (activeSlot b) h
 step-7 b (fetch key typ) u h = by-7 b (fetch key typ) _ (activeSlot b) h
 step-7 b figures u h = by-7 b figures _ (activeSlot b) h
-step-7 b (commit room) u h = absurd u
+step-7 b (commit way room) u h = absurd u
 step-7 b (wholeImage room) u h = absurd u
 
 -- what is done to the bank of the active slot

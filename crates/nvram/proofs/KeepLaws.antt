@@ -1,16 +1,18 @@
 -- What a call that meets its contract answers and leaves: on a sound state what the book says (`keeps`), by `view-lay`; and where it is
--- refused nothing else than its number (`refusal-keeps`, to be read: demand 1 in one law).
+-- refused, 12 of an old commit apart, nothing else than its number (`refusal-keeps`, to be read: demand 1 in one law);
+-- so a careful commit that is refused changes nothing and asks for nothing (`careful-keeps`, to be read: 02, N4).
 use Prim.Native.Nat.{ℕ}
 use mathlib.Core.Path.{_≡_, refl, sym, ap, _∙_, subst}
 use mathlib.Core.List.{List, []}
 use mathlib.Core.Logic.{_≢_}
-use mathlib.Core.Option.{Option, some}
-use mathlib.Core.Bool.{Bool, true, false}
+use mathlib.Core.Option.{Option, none, some}
+use mathlib.Core.Bool.{Bool, true, false, true≢false}
 use lib.ListN.{length}
 use Rattle.crc32.specs.Crc32.{Bytes}
 use Rattle.records.specs.Checked.{isSome}
 use Rattle.book.specs.Book.{Book, FineBook}
-use Rattle.book.specs.Call.{Call, ByteCall, Answer, number, step, refusal, stay}
+use Rattle.book.specs.Commit.{careful}
+use Rattle.book.specs.Call.{Call, commit, ByteCall, Answer, committed, number, step, refusal, stay, Follows}
 use Rattle.book.specs.Tally.{Tally, tallied}
 use Rattle.book.proofs.StepLaws.{step-fine}
 use Rattle.book.proofs.RefusalLaws.{refusal-again, refused}
@@ -48,7 +50,7 @@ keeps c s w b a x s′ w′ y f v d =
 
 -- whatever the state and the work area are, a call that is refused leaves them, and answers no more than its number
 pub refusal-keeps : (c : Call) (s : Nvram) (w : List ℕ) → Bytes w → length (s .banks) ≡ 16 → number (call c s w .answer) ≢ 0
-    → number (call c s w .answer) ≢ 12
+    → Follows c (number (call c s w .answer))
     → Does c s w (refusal c (number (call c s w .answer))) [] s w
 unfolding call onBook
 refusal-keeps c s w y l h m = go (isSome (view s w)) refl
@@ -57,8 +59,13 @@ refusal-keeps c s w y l h m = go (isSome (view s w)) refl
     go true q =
         let g : Sound s w = record { bytes = y; long = l; ok = q } in
         let e : call c s w .answer ≡ step (book g) c .answer = ap (λ (o : Option Book). onBook o c s w .answer) (viewed g) in
-        let r = refused (book g) c (λ z. h (ap number e ∙ z)) (λ z. m (ap number e ∙ z)) in
+        let r = refused (book g) c (λ z. h (ap number e ∙ z)) (λ o z. m o (ap number e ∙ z)) in
         does-refuse g c (number (call c s w .answer)) (r ∙ ap (λ (a : Answer). stay (book g) (refusal c (number a))) (sym e))
     go false q =
         let d = does-6 c s w q in
         subst (λ (a : Answer). Does c s w a [] s w) (sym (refusal-again c 6) ∙ ap (λ (a : Answer). refusal c (number a)) (d .answer)) d
+
+-- of a careful commit
+pub careful-keeps : (room : ℕ) (s : Nvram) (w : List ℕ) → Bytes w → length (s .banks) ≡ 16 → number (call (commit careful room) s w .answer) ≢ 0
+    → Does (commit careful room) s w (committed (number (call (commit careful room) s w .answer)) none 0 0) [] s w
+careful-keeps room s w y l h = refusal-keeps (commit careful room) s w y l h (λ o. absurd (true≢false (sym o)))

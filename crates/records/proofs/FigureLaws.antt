@@ -20,36 +20,37 @@ use Rattle.records.specs.Checked.{unsound, checked, recordsFigures}
 use Rattle.records.proofs.CheckedLaws.{checked-none, checked-same}
 use Rattle.records.proofs.RecordSteps.{lent, Further}
 
-figures-are : {a b c a′ b′ c′ : ℕ} → a ≡ a′ → b ≡ b′ → c ≡ c′
-    → _≡_ {A = Figures} (record { system = a; common = b; count = c }) (record { system = a′; common = b′; count = c′ })
-figures-are e f g = λ i. record { system = e i; common = f i; count = g i }
+figures-are : {a b c d a′ b′ c′ d′ : ℕ} → a ≡ a′ → b ≡ b′ → c ≡ c′ → d ≡ d′
+    → _≡_ {A = Figures} (record { system = a; common = b; live = c; count = d }) (record { system = a′; common = b′; live = c′; count = d′ })
+figures-are e f g h = λ i. record { system = e i; common = f i; live = g i; count = h i }
 
 -- the record that begins s, in the numbers that the code has
 module _ (f : Figures) (s : List ℕ) (n : ℕ) where
-  pub add-dead : getD s 2 0 ≢ 0x7F → record { system = f .system; common = f .common; count = f .count + 1 } ≡ plus f (figuresBy (recordOf s) n)
+  pub add-dead : getD s 2 0 ≢ 0x7F
+      → record { system = f .system; common = f .common; live = f .live; count = f .count + 1 } ≡ plus f (figuresBy (recordOf s) n)
   unfolding plus figuresBy liveOf live recordOf
-  add-dead t = rw (ne-eqb _ _ t) (figures-are (omega arith) (omega arith) refl)
+  add-dead t = rw (ne-eqb _ _ t) (figures-are (omega arith) (omega arith) (omega arith) refl)
 
   pub add-live : getD s 2 0 ≡ 0x7F → (p q : Bool) → p ≡ eqBytes (take 16 (drop 16 s)) systemGuid
       → q ≡ eqBytes (take 16 (drop 16 s)) commonGuid
       → (a b : ℕ)
       → a ≡ cond p n 0
       → b ≡ cond q n 0
-      → record { system = f .system + a; common = f .common + b; count = f .count + 1 } ≡ plus f (figuresBy (recordOf s) n)
+      → record { system = f .system + a; common = f .common + b; live = f .live + n; count = f .count + 1 } ≡ plus f (figuresBy (recordOf s) n)
   unfolding plus figuresBy liveOf live recordOf
   add-live t p q e g a b h k = rw (eq-eqb _ _ t, h, k, e, g)
 
 plus-assoc : (f g h : Figures) → plus (plus f g) h ≡ plus f (plus g h)
 unfolding plus
-plus-assoc f g h = figures-are (omega arith) (omega arith) (omega arith)
+plus-assoc f g h = figures-are (omega arith) (omega arith) (omega arith) (omega arith)
 
 plus-none : (f : Figures) → plus f noFigures ≡ f
 unfolding plus
-plus-none f = figures-are (omega arith) (omega arith) (omega arith)
+plus-none f = figures-are (omega arith) (omega arith) (omega arith) (omega arith)
 
 none-plus : (f : Figures) → plus noFigures f ≡ f
 unfolding plus
-none-plus f = figures-are (omega arith) (omega arith) (omega arith)
+none-plus f = figures-are (omega arith) (omega arith) (omega arith) (omega arith)
 
 -- one record before others adds its own
 sum-more : (p : Record → Bool) (r : Record) (rs : List Record) → cond (p r) (sizeOf r) 0 + sizes (select p rs) ≡ sizes (select p (r ∷ rs))
@@ -62,7 +63,7 @@ sum-more p r rs = go (p r)
 
 figures-more : (r : Record) (rs : List Record) → plus (figuresBy r (sizeOf r)) (figuresOf rs) ≡ figuresOf (r ∷ rs)
 unfolding plus figuresBy figuresOf
-figures-more r rs = figures-are (sum-more (liveOf systemGuid) r rs) (sum-more (liveOf commonGuid) r rs) (omega arith)
+figures-more r rs = figures-are (sum-more (liveOf systemGuid) r rs) (sum-more (liveOf commonGuid) r rs) (sum-more live r rs) (omega arith)
 
 -- the figures of some records on top of f, if they are to be counted
 unfoldable pub onTop : Bool → Figures → List Record → Figures
@@ -84,9 +85,9 @@ unfolding onTop recordsFigures
 top-first true rs = none-plus (figuresOf rs)
 top-first false rs = refl
 
--- none of the three is over a place
+-- none of the four is over a place
 abbrev pub Below : Figures → ℕ → Type 0
-Below f at = (f .system ≤ at) × (f .common ≤ at) × (f .count ≤ at)
+Below f at = (f .system ≤ at) × (f .common ≤ at) × (f .live ≤ at) × (f .count ≤ at)
 
 cond-le : (t : Bool) (n : ℕ) → cond t n 0 ≤ n
 cond-le true n = omega arith
@@ -95,9 +96,13 @@ cond-le false n = omega arith
 added-below : (counting : Bool) (f : Figures) (r : Record) (n at end : ℕ) → at + n ≡ end → 0 < n → Below f at
     → Below (cond counting (plus f (figuresBy r n)) f) end
 unfolding plus figuresBy
-added-below true f r n at end e l b =
-    (omega (arith, e, b .0, cond-le (liveOf systemGuid r) n), omega (arith, e, b .1, cond-le (liveOf commonGuid r) n), omega (arith, e, l, b .2))
-added-below false f r n at end e l b = (omega (arith, e, b .0), omega (arith, e, b .1), omega (arith, e, b .2))
+added-below true f r n at end e l b = (
+  omega (arith, e, b .0, cond-le (liveOf systemGuid r) n),
+  omega (arith, e, b .1, cond-le (liveOf commonGuid r) n),
+  omega (arith, e, b .2, cond-le (live r) n),
+  omega (arith, e, l, b .3),
+)
+added-below false f r n at end e l b = (omega (arith, e, b .0), omega (arith, e, b .1), omega (arith, e, b .2), omega (arith, e, b .3))
 
 -- the check of one record before others
 checked-more : (f g : List Record → Figures) (r : Record) → ((rs : List Record) → f rs ≡ g (r ∷ rs)) → (o : Option (List Record))
@@ -115,7 +120,7 @@ pub record Walked (counting : Bool) (s : List ℕ) (at : ℕ) (f : Figures) : Ty
 pub begin : (counting : Bool) (s : List ℕ) (f : Figures) → f ≡ noFigures → Walked counting s 0 f
 begin counting s f e =
     subst (Walked counting s 0) (sym e)
-    record { is = checked-same (top-first counting) (viewRecords s); small = (omega arith, omega arith, omega arith); within = omega arith }
+    record { is = checked-same (top-first counting) (viewRecords s); small = (omega arith, omega arith, omega arith, omega arith); within = omega arith }
 
 module _ {counting : Bool} {s : List ℕ} {at : ℕ} {f : Figures} (k : Walked counting s at f) where
   pub turn : {end : ℕ} → Further s at end → (g : Figures) → g ≡ cond counting (plus f (figuresBy (recordOf (lent s at)) (end - at))) f → Walked counting s end g

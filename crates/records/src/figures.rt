@@ -1,5 +1,5 @@
-// What records come to: the live ones in sum, by section (01, 'A commit, from the entry down'), and how many there are, dead ones too
-// (02, N3).
+// What records come to: the live ones in sum, by section (01, 'A commit, from the entry down') and all (02, N4), and how many there are, dead
+// ones too (02, N3).
 use bank::Variable;
 ghost use mathlib.Core.Path.{_≡_};
 ghost use mathlib.Core.Bool.{cond};
@@ -11,6 +11,7 @@ ghost use Rattle.records.specs.Figures.{noFigures, figuresBy, plus};
 pub struct Figures {
     pub system: usize,
     pub common: usize,
+    pub live: usize,
     pub count: usize,
 }
 
@@ -28,13 +29,14 @@ impl Figures {
         Figures {
             system: 0,
             common: 0,
+            live: 0,
             count: 0,
         }
     }
 
     // With the record of n bytes that begins s, if it is to be counted.
     pub(crate) fn add(self, counting: bool, s: &[u8], n: usize) -> Figures
-        requires { ⌜ (36 ≤ length (now s)) × (self .system + n < 18446744073709551616) × (self .common + n < 18446744073709551616) × (self .count + 1 < 18446744073709551616) ⌝ }
+        requires { ⌜ (36 ≤ length (now s)) × (self .system + n < 18446744073709551616) × (self .common + n < 18446744073709551616) × (self .live + n < 18446744073709551616) × (self .count + 1 < 18446744073709551616) ⌝ }
         ensures { λ r. ⌜ r ≡ cond counting (plus self (figuresBy (recordOf (now (s .entry))) n)) self ⌝ }
     {
         if !counting {
@@ -44,6 +46,7 @@ impl Figures {
             return Figures {
                 system: self.system,
                 common: self.common,
+                live: self.live,
                 count: self.count + 1,
             };
         }
@@ -53,6 +56,7 @@ impl Figures {
         Figures {
             system: self.system + count_if(buffers::same(guid, &system), n),
             common: self.common + count_if(buffers::same(guid, &common), n),
+            live: self.live + n,
             count: self.count + 1,
         }
     }

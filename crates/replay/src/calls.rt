@@ -4,6 +4,7 @@ use super::fields::field;
 use super::fields::hex;
 use super::fields::put_bytes;
 use bank::VarType;
+use commit::Way;
 use nvram::Entry;
 use nvram::Kind;
 use nvram::Nvram;
@@ -128,9 +129,9 @@ fn erase_right(line: &[u8], erase: Erase) -> bool {
     }
 }
 
-pub(crate) fn commit(state: Nvram, work: &mut [u8], line: &[u8]) -> Committed {
+pub(crate) fn commit(state: Nvram, work: &mut [u8], line: &[u8], way: Way) -> Committed {
     let mut output = output_room();
-    let done = commit::apply(state, work, &mut output);
+    let done = commit::apply(state, work, &mut output, way);
     let after = done.state;
     let erase = done.erase;
     let right = (decimal(line, 1) == done.number as u64)

@@ -14,6 +14,7 @@ use super::fields::field;
 use super::fields::hex;
 use super::fields::put_bytes;
 use bank::Partition;
+use commit::Way;
 use nvram::Nvram;
 use std::num::wrapping_add_usize;
 use variables::Edited;
@@ -137,8 +138,8 @@ impl Walk {
         }
     }
 
-    fn commit(self, line: &[u8], work: &mut [u8]) -> Walk {
-        let done = commit(self.state, work, line);
+    fn commit(self, line: &[u8], work: &mut [u8], way: Way) -> Walk {
+        let done = commit(self.state, work, line, way);
         let state = done.state;
         Walk {
             right: self.right & done.right,
@@ -183,7 +184,10 @@ impl Walk {
             return self.after(line, 3, remove(state, work, line));
         }
         if kind == b'C' {
-            return self.commit(line, work);
+            return self.commit(line, work, Way::Old);
+        }
+        if kind == b'K' {
+            return self.commit(line, work, Way::Careful);
         }
         self.check(line, kind, work)
     }

@@ -11,10 +11,10 @@ use Rattle.bank.proofs.ReadLaws.{empty-ff}
 use Rattle.book.specs.Edit.{editedBy}
 use Rattle.book.specs.Book.{Book, FineBook, activeSlot, withBank, slotSize}
 use Rattle.book.specs.Opening.{bankIn, readSlots, banksOf}
-use Rattle.book.specs.Call.{Call, Answer, committed, erase, refusal, Outcome, step}
+use Rattle.book.specs.Call.{Call, Answer, committed, number, erase, refusal, Follows, Outcome, step}
 use Rattle.book.specs.Tally.{Tally, counted, tallied}
 use Rattle.book.proofs.Did.{refuses, reads, edits, writes, moves, overflows, Did, did}
-use Rattle.book.proofs.StepLaws.{next-inside, step-fine, Follows, settled}
+use Rattle.book.proofs.StepLaws.{next-inside, step-fine, settled}
 use Rattle.nvram.specs.declared.state.Nvram.{Nvram}
 use Rattle.nvram.specs.Layout.{view}
 use Rattle.nvram.proofs.KeepLaws.{keeps}
@@ -49,7 +49,7 @@ module _ (b₀ : Book) (f : List ℕ) (b : Book) (m : ℕ) (s : State b₀ f b m
   still a x i =
       rw (idle-flash a i x f, idle-quiet a i) (record { base = s .base; fixed = λ h. s .fixed (omega arith); banks = s .banks; size = s .size })
 
-  stepped : (c : Call) (o : Outcome) → FineBook (o .after) → Follows c (o .answer) → Did b c o
+  stepped : (c : Call) (o : Outcome) → FineBook (o .after) → Follows c (number (o .answer)) → Did b c o
       → State b₀ (carriedOut (o .answer) (o .out) f) (o .after) (m + requested (erase (o .answer)))
   stepped c o fine h (refuses k n) = still (refusal c k) [] (idle-refusal c k (n .not-0))
   stepped c o fine h (reads a x r) = still a x (idle-read c a r)
@@ -61,20 +61,20 @@ module _ (b₀ : Book) (f : List ℕ) (b : Book) (m : ℕ) (s : State b₀ f b m
         banks = s .banks;
         size = same-size (d .bank) _ (b .active) (d .was) (s .base .fine .inside) refl;
       }
-  stepped c o fine h (writes room d) =
+  stepped c o fine h (writes way room d) =
       record {
         base = write-base f b (s .base) (d .bank) (d .was) (d .fits);
         fixed = λ p. write-current f b (s .base) (d .bank) (d .was) (d .fits) (s .fixed (omega arith)) .fixed;
         banks = s .banks;
         size = s .size;
       }
-  stepped c o fine h (moves room d l) =
+  stepped c o fine h (moves way room d l) =
       let x = move-current f b (s .base) (d .bank) (d .was) l (d .left) fine in
       record { base = x .base; fixed = λ p. x .fixed; banks = s .banks; size = same-size (d .bank) _ _ (d .was) (next-inside b (s .base .fine)) refl }
-  stepped c o fine h (overflows room d l) = absurd (h refl)
+  stepped c o fine h (overflows room d l) = absurd (h refl refl)
 
   -- an accepted commit, an erase being requested by now
-  committed-current : (c : Call) (o : Outcome) (e : Option ℕ) (offset long : ℕ) → FineBook (o .after) → Follows c (o .answer)
+  committed-current : (c : Call) (o : Outcome) (e : Option ℕ) (offset long : ℕ) → FineBook (o .after) → Follows c (number (o .answer))
       → o .answer ≡ committed 0 e offset long
       → 0 < m + requested (erase (o .answer))
       → Did b c o
@@ -82,10 +82,10 @@ module _ (b₀ : Book) (f : List ℕ) (b : Book) (m : ℕ) (s : State b₀ f b m
   committed-current c o e offset long fine h a p (refuses k n) = absurd (no-commit (idle-refusal c k (n .not-0)) a)
   committed-current c o e offset long fine h a p (reads y x r) = absurd (no-commit (idle-read c y r) a)
   committed-current c o e offset long fine h a p (edits x d) = absurd (no-commit tt a)
-  committed-current c o e offset long fine h a p (writes room d) =
+  committed-current c o e offset long fine h a p (writes way room d) =
       write-current f b (s .base) (d .bank) (d .was) (d .fits) (s .fixed (omega arith))
-  committed-current c o e offset long fine h a p (moves room d l) = move-current f b (s .base) (d .bank) (d .was) l (d .left) fine
-  committed-current c o e offset long fine h a p (overflows room d l) = absurd (h refl)
+  committed-current c o e offset long fine h a p (moves way room d l) = move-current f b (s .base) (d .bank) (d .was) l (d .left) fine
+  committed-current c o e offset long fine h a p (overflows room d l) = absurd (h refl refl)
 
 -- a page that is of one call on the book b
 pub record At (b : Book) (p : Page) : Type 0 where
@@ -94,7 +94,7 @@ pub record At (b : Book) (p : Page) : Type 0 where
   pub fine : FineBook (p .after)
   pub answer : p .event .answer ≡ step b (p .event .call) .answer
   pub out : p .event .out ≡ step b (p .event .call) .out
-  pub follows : Follows (p .event .call) (step b (p .event .call) .answer)
+  pub follows : Follows (p .event .call) (number (step b (p .event .call) .answer))
   pub viewed : view (p .event .state) (p .event .work) ≡ some (p .after)
 
 -- the flash after a page, and the erase requests
@@ -130,7 +130,7 @@ Tallied t [] = Unit {0}
 Tallied t (p ∷ ps) = (p .event .state .tally ≡ counted (erase (p .event .answer)) t) × Tallied (p .event .state .tally) ps
 
 -- a premise about each call, given the flash before it, by which the state follows the book
-module _ (Premise : List ℕ → Page → Type 0) (enough : (f : List ℕ) (p : Page) → Premise f p → Follows (p .event .call) (p .event .answer)) where
+module _ (Premise : List ℕ → Page → Type 0) (enough : (f : List ℕ) (p : Page) → Premise f p → Follows (p .event .call) (number (p .event .answer))) where
   along : (b₀ : Book) (f : List ℕ) (b : Book) (m : ℕ) (s : Nvram) (w : List ℕ) (es : List Event) → State b₀ f b m → view s w ≡ some b → Run s w es
       → Each (pages b es) (λ earlier p. Premise (flashAfter f earlier) p)
       → Along b₀ f b m (pages b es) × Tallied (s .tally) (pages b es)
@@ -141,7 +141,7 @@ module _ (Premise : List ℕ → Page → Type 0) (enough : (f : List ℕ) (p : 
       let p : Page = record { before = b; event = e; after = step b c .after } in
       let ps = pages (step b c .after) es in
       let k = keeps c s w b (e .answer) (e .out) (e .state) (e .work) (r .0) (x .base .fine) v (r .1) in
-      let h : Follows c (step b c .answer) = subst (Follows c) (k .answer) (enough f p (each-first p ps _ n)) in
+      let h : Follows c (number (step b c .answer)) = subst (λ (a : Answer). Follows c (number a)) (k .answer) (enough f p (each-first p ps _ n)) in
       let same : step b c .laid ≡ step b c .after = settled b c h in
       let a : At b p =
       record {
@@ -175,7 +175,7 @@ at-start image work s w bytes q =
     n : ℕ
     n = banksOf image
 
-pub opened-along : (Premise : List ℕ → Page → Type 0) → ((f : List ℕ) (p : Page) → Premise f p → Follows (p .event .call) (p .event .answer))
+pub opened-along : (Premise : List ℕ → Page → Type 0) → ((f : List ℕ) (p : Page) → Premise f p → Follows (p .event .call) (number (p .event .answer)))
     → (image work : List ℕ) (s : Nvram) (w : List ℕ) (es : List Event) → Opens image work s w → Run s w es
     → (let b = openedBook image in
     Each (pages b es) (λ earlier p. Premise (flashAfter image earlier) p) → Along b image b 0 (pages b es) × Tallied 0 (pages b es))

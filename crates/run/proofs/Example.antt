@@ -1,10 +1,12 @@
--- To be read: nothing else cites it. Demand 3's premises can be met (`premises-met`): one bank of size 100, in which the second insert and the third
--- make the commit move, so that its erase is requested twice. And the wear bound at the figures that 01 gives (`two-banks`).
+-- To be read: nothing else cites it. Demand 3's premises can be met in both readings (`met-01`, `met-N4`): one bank of size 100, in which the second
+-- insert and the third make the commit move, so that its erase is requested twice; then a careful commit is refused by 12, and the next one moves.
+-- And the wear bound at the figures that 01 gives (`two-banks`).
 use Prim.Native.Nat.{ℕ, _+_, _-_, _*_, _/_, _≤_, _<_}
 use mathlib.Core.Path.{_≡_, refl, sym, ap, ap₂, _∙_, subst}
 use mathlib.Core.Logic.{_≢_}
+use mathlib.Core.Bool.{Bool, true, false, true≢false}
 use mathlib.Core.List.{List, [], _∷_, _++_}
-use mathlib.Core.Option.{some}
+use mathlib.Core.Option.{none, some}
 use native.Mathlib.Omega.{arith}
 use native.Mathlib.Nat.{div-self}
 use lib.ListN.{length, replicate, length-append, length-replicate}
@@ -27,57 +29,19 @@ use Rattle.bank.proofs.PartitionLaws.{bank-size}
 use Rattle.bank.proofs.PaddedLaws.{length-blanks}
 use Rattle.bank.proofs.OutputLaws.{length-output, bytes-output}
 use Rattle.records.specs.Match.{matches, deleted}
-use Rattle.book.specs.Edit.{plain, insert, editedBy, grows, refusedEdit}
-use Rattle.book.specs.Book.{partSize, Book, FineBook}
-use Rattle.book.specs.Commit.{judge, due, judgeBank, request}
+use Rattle.book.specs.Edit.{plain, insert, remove, editedBy, grows, refusedEdit}
+use Rattle.book.specs.Book.{partSize, Book}
+use Rattle.book.specs.Commit.{Way, old, careful, judge, carefully, judgeAs, due, judgeBank, request}
 use Rattle.book.specs.Opening.{readSlots, activeFrom, anyValid, banksOf, bookOf, Opened, opened, opening}
-use Rattle.book.specs.Call.{Call, ByteCall, edit, commit, Answer, committed, number, erase, bySlot, editAs, editBank, moveIn, commitAs, commitBank, commitTo, step}
-use Rattle.book.proofs.StepLaws.{step-fine, follows, settled}
+use Rattle.book.specs.Call.{Call, edit, commit, Answer, committed, number, erase, bySlot, editAs, editBank, moveIn, commitAs, commitBank, commitTo, step, Follows}
 use Rattle.nvram.specs.declared.state.Nvram.{Nvram}
-use Rattle.nvram.specs.Layout.{view}
-use Rattle.nvram.specs.Contract.{begun, call}
-use Rattle.nvram.proofs.KeepLaws.{keeps}
-use Rattle.run.specs.Run.{Opens, Event, Run, openedBook, Page, pages, Never}
-use Rattle.run.specs.Wear.{activeSize, mostLive, insertedBytes, requested, requests}
-use Rattle.run.specs.Demand.{Demand3}
-use Rattle.run.proofs.EachLaws.{each-none, each-more}
+use Rattle.nvram.specs.Contract.{begun}
+use Rattle.run.specs.Run.{Opens, Event, Run, openedBook, Page, pages}
+use Rattle.run.specs.Wear.{activeSize, allCommits, acceptedCommits, mostLive, insertedBytes, requested, requests}
+use Rattle.run.specs.Demand.{Demand3, Careful}
+use Rattle.run.proofs.RunOf.{ByteCalls, No12, AllCareful, Kept, eventsOf, run-of, follows-of, careful-of}
 use Rattle.run.proofs.Start.{starts}
 use Rattle.run.proofs.Along.{Along, opened-along}
-
--- every list of calls has a run
-
-abbrev ByteCalls : List Call → Type 0
-ByteCalls [] = Unit {0}
-ByteCalls (c ∷ cs) = ByteCall c × ByteCalls cs
-
--- the book refuses none of them by 12
-unfoldable No12 : Book → List Call → Type 0
-No12 b [] = Unit {0}
-No12 b (c ∷ cs) = (number (step b c .answer) ≢ 12) × No12 (step b c .after) cs
-
-unfoldable eventsOf : Nvram → List ℕ → List Call → List Event
-eventsOf s w [] = []
-eventsOf s w (c ∷ cs) =
-    let a = call c s w in
-    record { call = c; answer = a .answer; out = a .out; state = a .state; work = a .work } ∷ eventsOf (a .state) (a .work) cs
-
-run-of : (s : Nvram) (w : List ℕ) (cs : List Call) → ByteCalls cs → Run s w (eventsOf s w cs)
-unfolding eventsOf
-run-of s w [] y = tt
-run-of s w (c ∷ cs) y =
-    (y .0, record { answer = refl; out = refl; state = refl; work = refl }, run-of (call c s w .state) (call c s w .work) cs (y .1))
-
--- without 12 where the book has none
-never-of : (b : Book) (s : Nvram) (w : List ℕ) (cs : List Call) → FineBook b → view s w ≡ some b → ByteCalls cs → No12 b cs
-    → Never 12 (pages b (eventsOf s w cs))
-unfolding eventsOf No12 pages
-never-of b s w [] f v y n = each-none _
-never-of b s w (c ∷ cs) f v y n =
-    let a = call c s w in
-    let k = keeps c s w b (a .answer) (a .out) (a .state) (a .work) (y .0) f v (record { answer = refl; out = refl; state = refl; work = refl }) in
-    let same : step b c .laid ≡ step b c .after = settled b c (follows c (step b c .answer) (n .0)) in
-    each-more _ _ _ (λ q. n .0 (sym (ap number (k .answer)) ∙ q))
-    (never-of (step b c .after) (a .state) (a .work) cs (subst FineBook same (step-fine b c (y .0) f)) (k .viewed ∙ ap some same) (y .1) (n .1))
 
 -- the image
 
@@ -147,23 +111,41 @@ opens =
 
 -- the calls
 
-abbrev put : Call
-put = edit (insert plain (replicate 1 255) (replicate 10 255) Common)
+-- keys of one byte and of two
+abbrev put : ℕ → Call
+put long = edit (insert plain (replicate long 255) (replicate 10 255) Common)
 
-abbrev calls : List Call
-calls = put ∷ put ∷ commit 65536 ∷ put ∷ commit 65536 ∷ []
+-- the second insert and the third make the commit move, with 72 bytes live; the fourth brings them to 121, over the size until it is removed
+abbrev calls : Way → List Call
+calls way =
+    put 1 ∷ put 1 ∷ commit way 65536 ∷ put 1 ∷ commit way 65536 ∷ put 2 ∷ commit careful 65536
+    ∷ edit (remove (replicate 2 255) Common)
+    ∷ commit careful 65536
+    ∷ []
 
-calls-bytes : ByteCalls calls
-calls-bytes = let y : Bytes (replicate 1 255) × Bytes (replicate 10 255) = (bytes-ff 1, bytes-ff 10) in (y, (y, (tt, (y, (tt, tt)))))
+calls-bytes : (way : Way) → ByteCalls (calls way)
+calls-bytes way =
+    let y : (n : ℕ) → Bytes (replicate n 255) × Bytes (replicate 10 255) = λ n. (bytes-ff n, bytes-ff 10) in
+    (y 1, (y 1, (tt, (y 1, (tt, (y 2, (tt, (bytes-ff 2, (tt, tt)))))))))
 
-not-12 : No12 book calls
-unfolding No12 step bySlot editBank editAs refusedEdit editedBy grows commitTo commitBank commitAs judgeBank judge due moveIn total liveTotal select liveOf live sizes sizeOf matches deleted deletedState typeOf eqBytes request bankSize partSize
-not-12 = ((λ e. omega arith), ((λ e. omega arith), ((λ e. omega arith), ((λ e. omega arith), ((λ e. omega arith), tt)))))
+no-12 : (way : Way) → No12 book (calls way)
+unfolding No12 step bySlot editBank editAs refusedEdit editedBy grows commitTo commitBank commitAs judgeBank judgeAs judge carefully due moveIn total liveTotal select liveOf live sizes sizeOf matches deleted deletedState typeOf eqBytes request bankSize partSize
+no-12 old = (go, (go, ((λ o e. omega arith), (go, ((λ o e. omega arith), (go, (go, (go, (go, tt)))))))))
+  where
+    go : {k : ℕ} → false ≡ true → k ≢ 12
+    go o = absurd (true≢false (sym o))
+no-12 careful = (go, (go, (go, (go, (go, (go, (go, (go, (go, tt)))))))))
+  where
+    go : {k : ℕ} → false ≡ true → k ≢ 12
+    go o = absurd (true≢false (sym o))
+
+all-careful : AllCareful (calls careful)
+all-careful = (refl, (refl, (refl, (refl, (refl, (refl, (refl, (refl, (refl, tt)))))))))
 
 -- what they ask for
 
 -- two erase requests for one bank with room for the wear bound, and an accepted commit after a request
-pub record Twice (b : Book) (es : List Event) : Type 0 where
+pub record Twice (counts : ℕ → Bool) (b : Book) (es : List Event) : Type 0 where
   pub earlier : List Page
   pub first : Page
   pub between : List Page
@@ -172,19 +154,29 @@ pub record Twice (b : Book) (es : List Event) : Type 0 where
   pub parts : pages b es ≡ earlier ++ (first ∷ (between ++ (second ∷ later)))
   pub commits : first .event .answer ≡ committed 0 (some 0) 0 100
   pub again : erase (second .event .answer) ≡ some 0
-  pub within : mostLive (first ∷ between) ≤ activeSize b
+  pub within : mostLive counts (first ∷ between) ≤ activeSize b
   pub requested-once : 0 < requests (earlier ++ (first ∷ []))
 
-module _ (f : List ℕ) (s : Nvram) (w : List ℕ) (a : Along book f book 0 (pages book (eventsOf s w calls))) where
-  twice : Twice book (eventsOf s w calls)
-  unfolding eventsOf pages mostLive requests step bySlot editBank editAs refusedEdit editedBy grows commitTo commitBank commitAs judgeBank judge due moveIn total liveTotal select liveOf live sizes sizeOf matches deleted deletedState typeOf eqBytes request bankSize partSize
-  twice =
+-- and between them a careful commit that is refused by 12; with it L would be over S
+pub record Despite12 (b : Book) (es : List Event) : Type 0 where
+  pub twice : Twice acceptedCommits b es
+  pub before : List Page
+  pub refused : Page
+  pub behind : List Page
+  pub parts : twice .between ≡ before ++ (refused ∷ behind)
+  pub answer : refused .event .answer ≡ committed 12 none 0 0
+  pub over : activeSize b < mostLive allCommits (twice .first ∷ twice .between)
+
+module _ (f : List ℕ) (s : Nvram) (w : List ℕ) where
+  twice : Along book f book 0 (pages book (eventsOf s w (calls old))) → Twice allCommits book (eventsOf s w (calls old))
+  unfolding eventsOf pages mostLive requests step bySlot editBank editAs refusedEdit editedBy grows commitTo commitBank commitAs judgeBank judgeAs judge carefully due moveIn total liveTotal select liveOf live sizes sizeOf matches deleted deletedState typeOf eqBytes request bankSize partSize
+  twice a =
       record {
         earlier = _ ∷ _ ∷ [];
         first = _;
         between = _ ∷ [];
         second = _;
-        later = [];
+        later = _ ∷ _ ∷ _ ∷ _ ∷ [];
         parts = refl;
         commits = a .2 .2 .1 .answer;
         again = ap erase (a .2 .2 .2 .2 .1 .answer);
@@ -192,8 +184,34 @@ module _ (f : List ℕ) (s : Nvram) (w : List ℕ) (a : Along book f book 0 (pag
         requested-once = omega (arith, ap (λ (x : Answer). requested (erase x)) (a .2 .2 .1 .answer));
       }
 
--- the premises of `Claim`, of `wear` and of `reopening`, together
-pub record Met : Type 0 where
+  despite-12 : Along book f book 0 (pages book (eventsOf s w (calls careful))) → Despite12 book (eventsOf s w (calls careful))
+  unfolding eventsOf pages mostLive requests step bySlot editBank editAs refusedEdit editedBy grows commitTo commitBank commitAs judgeBank judgeAs judge carefully due moveIn total liveTotal select liveOf live sizes sizeOf matches deleted deletedState typeOf eqBytes request bankSize partSize
+  despite-12 a =
+      let b = a .2 .2 .2 .2 in
+      record {
+        twice =
+            record {
+              earlier = _ ∷ _ ∷ _ ∷ _ ∷ [];
+              first = _;
+              between = _ ∷ _ ∷ _ ∷ [];
+              second = _;
+              later = [];
+              parts = refl;
+              commits = b .1 .answer;
+              again = ap erase (b .2 .2 .2 .2 .1 .answer);
+              within = rw (b .1 .answer, b .2 .1 .answer, b .2 .2 .1 .answer, b .2 .2 .2 .1 .answer) (omega arith);
+              requested-once = omega (arith, ap (λ (x : Answer). requested (erase x)) (b .1 .answer));
+            };
+        before = _ ∷ [];
+        refused = _;
+        behind = _ ∷ [];
+        parts = refl;
+        answer = b .2 .2 .1 .answer;
+        over = omega arith;
+      }
+
+-- the premises of a claim, of `wear` and of `reopening`, together
+pub record Met (Keeps : Call → ℕ → Type 0) (Asks : Book → List Event → Type 0) : Type 0 where
   pub image : List ℕ
   pub work : List ℕ
   pub state : Nvram
@@ -201,33 +219,55 @@ pub record Met : Type 0 where
   pub events : List Event
   pub opens : Opens image work state left
   pub runs : Run state left events
-  pub never : Never 12 (pages (openedBook image) events)
-  pub asks : Twice (openedBook image) events
+  pub keeps : Kept Keeps (pages (openedBook image) events)
+  pub asks : Asks (openedBook image) events
 
-pub premises-met : Met
-unfolding begun
-premises-met =
-    let s = begun (opening image (length work)) work .state in
-    let w = begun (opening image (length work)) work .work in
-    let es = eventsOf s w calls in
-    let o : Opens image work s w =
-    record { bytes = image-bytes; accepted = ap (λ (x : Opened). begun x work .number) opens; state = refl; left = refl } in
-    let q = starts image work s w o in
-    let n : Never 12 (pages (openedBook image) es) =
-    never-of (openedBook image) s w calls (q .fine) (q .viewed) calls-bytes (subst (λ (b : Book). No12 b calls) (sym book-opened) not-12) in
-    record {
-      image = image;
-      work = work;
-      state = s;
-      left = w;
-      events = es;
-      opens = o;
-      runs = run-of s w calls calls-bytes;
-      never = n;
-      asks =
-          subst (λ (b : Book). Along b image b 0 (pages b es) → Twice b es) (sym book-opened) (twice image s w)
-          (opened-along (λ f p. number (p .event .answer) ≢ 12) (λ f p. follows (p .event .call) (p .event .answer)) image work s w es o (run-of s w calls calls-bytes) n .0);
-    }
+module _ (way : Way) where
+  abbrev s : Nvram
+  s = begun (opening image (length work)) work .state
+
+  abbrev w : List ℕ
+  w = begun (opening image (length work)) work .work
+
+  abbrev es : List Event
+  es = eventsOf s w (calls way)
+
+  opened-image : Opens image work s w
+  unfolding begun
+  opened-image = record { bytes = image-bytes; accepted = ap (λ (x : Opened). begun x work .number) opens; state = refl; left = refl }
+
+  follows : Kept Follows (pages (openedBook image) es)
+  follows =
+      let q = starts image work s w opened-image in
+      follows-of (openedBook image) s w (calls way) (q .fine) (q .viewed) (calls-bytes way)
+      (subst (λ (b : Book). No12 b (calls way)) (sym book-opened) (no-12 way))
+
+  met : (Keeps : Call → ℕ → Type 0) (Asks : Book → List Event → Type 0) → Kept Keeps (pages (openedBook image) es)
+      → (Along book image book 0 (pages book es) → Asks book es)
+      → Met Keeps Asks
+  met Keeps Asks h asks =
+      let r = run-of s w (calls way) (calls-bytes way) in
+      record {
+        image = image;
+        work = work;
+        state = s;
+        left = w;
+        events = es;
+        opens = opened-image;
+        runs = r;
+        keeps = h;
+        asks =
+            subst (λ (b : Book). Along b image b 0 (pages b es) → Asks b es) (sym book-opened) asks
+            (opened-along (λ f p. Follows (p .event .call) (number (p .event .answer))) (λ f p x. x) image work s w es opened-image r follows .0);
+      }
+
+-- 01's reading, in a run with both commits
+pub met-01 : Met Follows (Twice allCommits)
+met-01 = met old Follows (Twice allCommits) (follows old) (twice image (s old) (w old))
+
+-- 02's (N4), in a run with careful ones alone
+pub met-N4 : Met Careful Despite12
+met-N4 = met careful Careful Despite12 (careful-of _ _ _ (calls careful) all-careful) (despite-12 image (s careful) (w careful))
 
 -- n 2, S 65,536, L at most 8,192: at least 114,690 bytes
 
@@ -236,13 +276,13 @@ figures n S L bytes p q l h =
     let x : 2 * (S - L + 1) ≤ bytes = rw p at (h (omega arith)) in
     omega arith
 
-pub two-banks : (image : List ℕ) (ps : List Page) → Demand3 image ps → openedBook image .n ≡ 2 → activeSize (openedBook image) ≡ 65536
+pub two-banks : (image : List ℕ) (counts : ℕ → Bool) (ps : List Page) → Demand3 image counts ps → openedBook image .n ≡ 2 → activeSize (openedBook image) ≡ 65536
     → (earlier : List Page) (first : Page) (between : List Page) (second : Page) (later : List Page) (offset : ℕ)
     → ps ≡ earlier ++ (first ∷ (between ++ (second ∷ later)))
     → erase (first .event .answer) ≡ some offset
     → erase (second .event .answer) ≡ some offset
-    → mostLive (first ∷ between) ≤ 8192
+    → mostLive counts (first ∷ between) ≤ 8192
     → 114690 ≤ insertedBytes between
-two-banks image ps d n S earlier first between second later offset h x y l =
-    figures (openedBook image .n) (activeSize (openedBook image)) (mostLive (first ∷ between)) (insertedBytes between) n S l
+two-banks image counts ps d n S earlier first between second later offset h x y l =
+    figures (openedBook image .n) (activeSize (openedBook image)) (mostLive counts (first ∷ between)) (insertedBytes between) n S l
     (d .wear earlier first between second later offset h x y)

@@ -1,4 +1,4 @@
--- Answers that ask nothing of the flash: every refusal but 12, every call that only reads, and every edit.
+-- Answers that ask nothing of the flash: every refusal but 12 of an old commit, every call that only reads, and every edit.
 use Prim.Native.Nat.{ℕ, zero, suc}
 use mathlib.Core.Path.{_≡_, refl, sym, ap, _∙_, subst}
 use mathlib.Core.Logic.{_≢_}
@@ -26,8 +26,8 @@ idle-refusal (edit e) k h = tt
 idle-refusal (lookup key typ) k h = tt
 idle-refusal (fetch key typ) k h = tt
 idle-refusal figures k h = tt
-idle-refusal (commit room) zero h = absurd (h refl)
-idle-refusal (commit room) (suc k) h = refl
+idle-refusal (commit way room) zero h = absurd (h refl)
+idle-refusal (commit way room) (suc k) h = refl
 idle-refusal (wholeImage room) k h = tt
 
 pub idle-read : (c : Call) (a : Answer) → Reads c a → Idle a
@@ -35,7 +35,7 @@ idle-read (edit e) a r = absurd r
 idle-read (lookup key typ) a r = subst Idle (sym (r .1)) tt
 idle-read (fetch key typ) a r = subst Idle (sym r) tt
 idle-read figures a r = subst Idle (sym (r .1)) tt
-idle-read (commit room) a r = absurd r
+idle-read (commit way room) a r = absurd r
 idle-read (wholeImage room) a r = subst Idle (sym (r .1)) tt
 
 -- no erase is requested then, nothing is done to the flash, and it is no accepted commit
@@ -70,7 +70,7 @@ read-tally (edit e) a t r = absurd r
 read-tally (lookup key typ) a t r = refl
 read-tally (fetch key typ) a t r = refl
 read-tally figures a t r = refl
-read-tally (commit room) a t r = absurd r
+read-tally (commit way room) a t r = absurd r
 read-tally (wholeImage room) a t r = refl
 
 idle-count : (a : Answer) (t : Tally) → Idle a → t ≡ counted (erase a) t
@@ -80,6 +80,6 @@ pub tallied-erase : (b : Book) (c : Call) (o : Outcome) (t : Tally) → Did b c 
 tallied-erase b c o t (refuses k n) = refusal-tally c k t ∙ idle-count (refusal c k) t (idle-refusal c k (n .not-0))
 tallied-erase b c o t (reads a x r) = read-tally c a t r ∙ idle-count a t (idle-read c a r)
 tallied-erase b c o t (edits e d) = refl
-tallied-erase b c o t (writes room d) = refl
-tallied-erase b c o t (moves room d l) = refl
+tallied-erase b c o t (writes way room d) = refl
+tallied-erase b c o t (moves way room d l) = refl
 tallied-erase b c o t (overflows room d l) = refl

@@ -9,4 +9,5 @@ pub mod Along
 pub mod Reopen
 pub mod Wear
 pub mod Demand
+pub mod RunOf
 pub mod Example

@@ -1,11 +1,14 @@
--- The wear bound (01, 'A run, its book and the flash'), with L anything that the live records at commits stay within. From one move to the next to
+-- The wear bound (01, 'A run, its book and the flash'; 02, N4), with L anything that the live records at accepted commits stay within: one that
+-- is refused leaves the book as it was. From one move to the next to
 -- the same bank there are n moves or more (`whole-turns`), each drops the total by D or more, and inserts have brought that (`MovesBetween`, `two-moves`).
 use Prim.Native.Nat.{ℕ, zero, suc, _+_, _*_, _/_, _≤_, _<_}
 use native.Mathlib.Omega.{arith}
 use native.Mathlib.Nat.{div-add-mod', mul-le-mul-right, le-trans}
 use mathlib.Core.Path.{_≡_, refl, sym, ap, _∙_, subst}
 use mathlib.Core.Option.{some}
+use mathlib.Core.Bool.{Bool, true, false, cond}
 use mathlib.Core.List.{List, [], _∷_, _++_}
+use borrow.Author.Tests.{eq-eqb}
 use Rattle.buffers.proofs.Laws.{clash}
 use Rattle.bank.specs.Record.{Record, sizes}
 use Rattle.bank.specs.Bank.{Bank, Slot, empty, invalid, valid, bankSize}
@@ -13,25 +16,42 @@ use Rattle.bank.specs.Totals.{total, liveTotal}
 use Rattle.book.specs.Edit.{editedBy}
 use Rattle.book.specs.Book.{Book, FineBook, activeSlot, withBank, withActive, withRecords, slotSize}
 use Rattle.book.specs.Commit.{moved, nextBank, nextSlot, request, movedBook}
-use Rattle.book.specs.Call.{Call, edited, number, erase, refusal, Outcome, step}
+use Rattle.book.specs.Call.{Call, edited, number, erase, refusal, Follows, Outcome, step}
 use Rattle.book.proofs.EditedRecords.{sizes-edited}
 use Rattle.book.proofs.Did.{Due, refuses, reads, edits, writes, moves, overflows, Did, did}
-use Rattle.book.proofs.StepLaws.{next-inside, Follows}
+use Rattle.book.proofs.StepLaws.{next-inside}
 use Rattle.run.specs.Run.{Page}
-use Rattle.run.specs.Wear.{activeSize, slotLive, liveAt, mostLive, added, insertedBytes}
+use Rattle.run.specs.Wear.{activeSize, slotLive, liveAt, acceptedCommits, mostLive, added, insertedBytes}
 use Rattle.run.proofs.Idle.{idle-refusal, idle-read, no-request}
 use Rattle.run.proofs.Invariant.{active-stored}
 use Rattle.run.proofs.Along.{At, flashOf, asks, Along, endOf, along-split}
 
--- the live records at the commits of a list stay within a bound
+-- the live records at the accepted commits of a list stay within a bound
 abbrev pub Within : ℕ → List Page → Type 0
 Within L [] = Unit {0}
-Within L (p ∷ ps) = (liveAt (p .before) (p .event .call) ≤ L) × Within L ps
+Within L (p ∷ ps) = (number (p .event .answer) ≡ 0 → liveAt (p .before) (p .event .call) ≤ L) × Within L ps
 
-pub most-within : (L : ℕ) (ps : List Page) → mostLive ps ≤ L → Within L ps
+counts-accepted : (k : ℕ) → k ≡ 0 → acceptedCommits k ≡ true
+counts-accepted k q = eq-eqb k 0 q
+
+pub most-within : (L : ℕ) (ps : List Page) → mostLive acceptedCommits ps ≤ L → Within L ps
 unfolding mostLive
 most-within L [] h = tt
-most-within L (p ∷ ps) h = (omega arith, most-within L ps (omega arith))
+most-within L (p ∷ ps) h = (λ q. let e = rw (counts-accepted _ q) at h in omega arith, most-within L ps (omega arith))
+
+-- L over more commits is no less
+
+cond-more : (s t : Bool) (n : ℕ) → (s ≡ true → t ≡ true) → cond s n 0 ≤ cond t n 0
+cond-more false t n h = omega arith
+cond-more true t n h = rw (h refl) (omega arith)
+
+pub most-more : (counts counts′ : ℕ → Bool) → ((k : ℕ) → counts k ≡ true → counts′ k ≡ true) → (ps : List Page)
+    → mostLive counts ps ≤ mostLive counts′ ps
+unfolding mostLive
+most-more counts counts′ h [] = omega arith
+most-more counts counts′ h (p ∷ ps) =
+    let k = number (p .event .answer) in
+    omega (arith, cond-more (counts k) (counts′ k) (liveAt (p .before) (p .event .call)) (h k), most-more counts counts′ h ps)
 
 -- one call
 
@@ -93,15 +113,15 @@ module _ (S : ℕ) (b : Book) (f : FineBook b) (k : Bank) (g : Good S b) (e : ac
         falls = rw (active-stored b f (nextBank b) (next-inside b f) (moved k), e) (omega (arith, its-usable));
       }
 
-one-call : (S L D : ℕ) → D + L ≤ suc S → (b : Book) (c : Call) (o : Outcome) → FineBook b → Good S b → Follows c (o .answer) → liveAt b c ≤ L → Did b c o
+one-call : (S L D : ℕ) → D + L ≤ suc S → (b : Book) (c : Call) (o : Outcome) → FineBook b → Good S b → Follows c (number (o .answer)) → (number (o .answer) ≡ 0 → liveAt b c ≤ L) → Did b c o
     → MovesBetween S D b (o .after) (added c (number (o .answer)))
 one-call S L D d b c o f g h l (refuses k n) = went-nowhere S D b _ g
 one-call S L D d b c o f g h l (reads a x r) = went-nowhere S D b _ g
 one-call S L D d b c o f g h l (edits e x) = went-edit S b f (x .bank) g (x .was) D (editedBy e (x .bank .records)) _ (sizes-edited e (x .bank .records))
-one-call S L D d b c o f g h l (writes room x) = went-nowhere S D b _ g
-one-call S L D d b c o f g h l (moves room x _) =
-    went-move S b f (x .bank) g (x .was) L D d _ (x .due) (subst (λ (s : Slot). slotLive s ≤ L) (x .was) l)
-one-call S L D d b c o f g h l (overflows room x _) = absurd (h refl)
+one-call S L D d b c o f g h l (writes way room x) = went-nowhere S D b _ g
+one-call S L D d b c o f g h l (moves way room x _) =
+    went-move S b f (x .bank) g (x .was) L D d _ (x .due) (subst (λ (s : Slot). slotLive s ≤ L) (x .was) (l refl))
+one-call S L D d b c o f g h l (overflows room x _) = absurd (h refl refl)
 
 joined : (S D : ℕ) (b b′ b″ : Book) (x y : ℕ) → MovesBetween S D b b′ x → MovesBetween S D b′ b″ y → MovesBetween S D b b″ (x + y)
 joined S D b b′ b″ x y u v =
@@ -115,11 +135,12 @@ joined S D b b′ b″ x y u v =
     }
 
 -- the same of a page
-one-page : (S L D : ℕ) → D + L ≤ suc S → (b : Book) (p : Page) → FineBook b → Good S b → At b p → liveAt (p .before) (p .event .call) ≤ L
+one-page : (S L D : ℕ) → D + L ≤ suc S → (b : Book) (p : Page) → FineBook b → Good S b → At b p → (number (p .event .answer) ≡ 0 → liveAt (p .before) (p .event .call) ≤ L)
     → MovesBetween S D b (p .after) (added (p .event .call) (number (p .event .answer)))
 one-page S L D d b p f g a l =
     let c = p .event .call in
-    rw (a .answer, a .after) (one-call S L D d b c (step b c) f g (a .follows) (subst (λ (x : Book). liveAt x c ≤ L) (a .before) l) (did b c))
+    rw (a .answer, a .after)
+    (one-call S L D d b c (step b c) f g (a .follows) (λ q. subst (λ (x : Book). liveAt x c ≤ L) (a .before) (l (ap number (a .answer) ∙ q))) (did b c))
 
 went : (S L D : ℕ) → D + L ≤ suc S → (b₀ : Book) (f : List ℕ) (b : Book) (m : ℕ) (ps qs : List Page) → Along b₀ f b m (ps ++ qs) → Good S b → Within L ps
     → MovesBetween S D b (endOf b ps) (insertedBytes ps)
@@ -133,6 +154,7 @@ went S L D d b₀ f b m (p ∷ ps) qs a g l =
 
 record Asked (b : Book) (c : Call) (o : Outcome) (offset : ℕ) : Type 0 where
   due : Due b
+  accepted : number (o .answer) ≡ 0
   becomes : o .after ≡ movedBook b (due .bank)
   live : liveAt b c ≡ liveTotal (due .bank)
   next : nextBank b * bankSize ≡ offset
@@ -143,14 +165,14 @@ asked-slot empty i o h = cc
 asked-slot invalid i o h = cc
 asked-slot (valid k) i o h = cc
 
-asked : (b : Book) (c : Call) (o : Outcome) (k : ℕ) → Follows c (o .answer) → erase (o .answer) ≡ some k → Did b c o → Asked b c o k
+asked : (b : Book) (c : Call) (o : Outcome) (k : ℕ) → Follows c (number (o .answer)) → erase (o .answer) ≡ some k → Did b c o → Asked b c o k
 asked b c o k h q (refuses n x) = absurd (no-request (refusal c n) (idle-refusal c n (x .not-0)) q)
 asked b c o k h q (reads a x r) = absurd (no-request a (idle-read c a r) q)
 asked b c o k h q (edits e d) = absurd (no-request (edited 0) tt q)
-asked b c o k h q (writes room d) = clash cc
-asked b c o k h q (moves room d l) =
-    record { due = d; becomes = refl; live = rw (d .was); next = asked-slot (nextSlot b) (nextBank b) k q }
-asked b c o k h q (overflows room d l) = absurd (h refl)
+asked b c o k h q (writes way room d) = clash cc
+asked b c o k h q (moves way room d l) =
+    record { due = d; accepted = refl; becomes = refl; live = rw (d .was); next = asked-slot (nextSlot b) (nextBank b) k q }
+asked b c o k h q (overflows room d l) = absurd (h refl refl)
 
 asked-page : (b : Book) (p : Page) (k : ℕ) → At b p → erase (p .event .answer) ≡ some k → Asked b (p .event .call) (step b (p .event .call)) k
 asked-page b p k a q =
@@ -207,7 +229,8 @@ module _ (b₀ : Book) (f : List ℕ) (b : Book) (m : ℕ) (first : Page) (betwe
       let k = u .due .bank in
       let size : k .header .size ≡ S = sym (ap (λ (z : Slot). slotSize z) (u .due .was)) ∙ s .size in
       let q : b₁ ≡ movedBook b k = a .1 .after ∙ u .becomes in
-      let live : liveTotal k ≤ L = omega (arith, u .live, ap (λ (z : Book). liveAt z (first .event .call)) (a .1 .before), h .0) in
+      let live : liveTotal k ≤ L =
+      omega (arith, u .live, ap (λ (z : Book). liveAt z (first .event .call)) (a .1 .before), h .0 (ap number (a .1 .answer) ∙ u .accepted)) in
       let drop : D + L ≤ suc (k .header .size) = omega arith in
       let good : Good (k .header .size) b₁ =
       subst (Good (k .header .size)) (sym q) (good-kept _ b fine (nextBank b) (next-inside b fine) (moved k) refl refl) in

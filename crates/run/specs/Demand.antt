@@ -1,20 +1,22 @@
--- Demand 3, of a run's pages, in the order of 01 ('A run, its book and the flash'). The proof that every run meets it is proofs/Demand.antt.
+-- Demand 3, of a run's pages, in the order of 01 ('A run, its book and the flash'); of which runs it is claimed, and over which commits L is taken: by
+-- 01, and by 02 (N4). The proof that they meet it is proofs/Demand.antt.
 use Prim.Native.Nat.{ℕ, _+_, _-_, _*_, _≤_, _<_, min}
 use mathlib.Core.Path.{_≡_}
 use mathlib.Core.Logic.{_≢_}
 use mathlib.Core.List.{List, [], _∷_, _++_}
 use mathlib.Core.Option.{Option, some}
+use mathlib.Core.Bool.{Bool, false}
 use lib.ListN.{length}
 use Rattle.bank.specs.declared.variable.VarType.{VarType}
 use Rattle.bank.specs.Bank.{Bank, valid}
 use Rattle.book.specs.Book.{partSize, Book, activeSlot}
 use Rattle.book.specs.Opening.{opening, opened}
-use Rattle.book.specs.Call.{lookup, fetch, committed, number, erase, step}
+use Rattle.book.specs.Call.{Call, lookup, fetch, committed, number, erase, step, isOld, Follows}
 use Rattle.nvram.specs.declared.state.Nvram.{Nvram}
 use Rattle.nvram.specs.Contract.{begun, call}
 use Rattle.run.specs.Flash.{carriedOut}
-use Rattle.run.specs.Run.{Opens, Event, Run, openedBook, Page, pages, Each, Never}
-use Rattle.run.specs.Wear.{activeSize, mostLive, insertedBytes, requests}
+use Rattle.run.specs.Run.{Opens, Event, Run, openedBook, Page, pages, Each}
+use Rattle.run.specs.Wear.{activeSize, allCommits, acceptedCommits, mostLive, insertedBytes, requests}
 
 -- the answers: number, found or none, place, length, value, both sums and the number of records, erase request, write offset, length and bytes,
 -- joined bytes
@@ -47,7 +49,8 @@ pub record Reopens (flash : List ℕ) (p : Page) : Type 0 where
       → (let x = begun (opening flash (length work)) work in call (fetch key typ) (x .state) (x .work) .out)
       ≡ call (fetch key typ) (p .event .state) (p .event .work) .out
 
-module _ (image : List ℕ) where
+-- with L over the commits that count, by their numbers
+module _ (image : List ℕ) (counts : ℕ → Bool) where
   -- the number of banks, and the size in the header of the book's active bank
   abbrev n : ℕ
   n = openedBook image .n
@@ -65,7 +68,7 @@ module _ (image : List ℕ) where
         → ps ≡ earlier ++ (first ∷ (between ++ (second ∷ later)))
         → erase (first .event .answer) ≡ some offset
         → erase (second .event .answer) ≡ some offset
-        → (let L = mostLive (first ∷ between) in L ≤ S → n * (S - L + 1) ≤ insertedBytes between)
+        → (let L = mostLive counts (first ∷ between) in L ≤ S → n * (S - L + 1) ≤ insertedBytes between)
     -- after every accepted commit from the first erase request on, the flash reopens to the book
     pub reopening : Each ps (λ earlier p.
         (e : Option ℕ) (offset long : ℕ) → p .event .answer ≡ committed 0 e offset long → 0 < requests (earlier ++ (p ∷ []))
@@ -73,8 +76,19 @@ module _ (image : List ℕ) where
     -- the state's tally is the number of erase requests answered since opening, up to its stop
     pub tally : Each ps (λ earlier p. p .event .state .tally ≡ min (requests (earlier ++ (p ∷ []))) 4294967295)
 
--- an accepted opening, a list of calls, and none of them refused by 12
-abbrev pub Claim : Type 0
-Claim =
+-- of every accepted opening and list of calls each of which, with its number, keeps a rule
+abbrev pub Claim : (Call → ℕ → Type 0) → (ℕ → Bool) → Type 0
+Claim Keeps counts =
     (image work : List ℕ) (s : Nvram) (w : List ℕ) (es : List Event) → Opens image work s w → Run s w es
-    → (let ps = pages (openedBook image) es in Never 12 ps → Demand3 image ps)
+    → (let ps = pages (openedBook image) es in Each ps (λ earlier p. Keeps (p .event .call) (number (p .event .answer))) → Demand3 image counts ps)
+
+-- 01's reading: no old commit is refused by 12, and L is over all commits, refused ones too
+abbrev pub Claim01 : Type 0
+Claim01 = Claim Follows allCommits
+
+-- 02's (N4): every commit is careful, and L is over accepted commits alone
+abbrev pub Careful : Call → ℕ → Type 0
+Careful c k = isOld c ≡ false
+
+abbrev pub ClaimN4 : Type 0
+ClaimN4 = Claim Careful acceptedCommits

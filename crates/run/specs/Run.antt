@@ -2,13 +2,12 @@
 -- book beside it, which is fed the opened image and the calls' arguments alone.
 use Prim.Native.Nat.{ℕ}
 use mathlib.Core.Path.{_≡_}
-use mathlib.Core.Logic.{_≢_}
 use mathlib.Core.List.{List, [], _∷_, _++_}
 use lib.ListN.{length}
 use Rattle.crc32.specs.Crc32.{Bytes}
 use Rattle.book.specs.Book.{Book}
 use Rattle.book.specs.Opening.{opening, readSlots, banksOf, bookOf}
-use Rattle.book.specs.Call.{Call, ByteCall, Answer, number, step}
+use Rattle.book.specs.Call.{Call, ByteCall, Answer, step}
 use Rattle.nvram.specs.declared.state.Nvram.{Nvram}
 use Rattle.nvram.specs.Contract.{begun, Does}
 
@@ -49,7 +48,3 @@ pages b (e ∷ es) = record { before = b; event = e; after = step b (e .call) .a
 -- what holds of each page, given the pages before it
 abbrev pub Each : List Page → (List Page → Page → Type 0) → Type 0
 Each ps P = (earlier : List Page) (p : Page) (later : List Page) → ps ≡ earlier ++ (p ∷ later) → P earlier p
-
--- no call is refused by a number
-abbrev pub Never : ℕ → List Page → Type 0
-Never n ps = Each ps (λ earlier p. number (p .event .answer) ≢ n)

@@ -1,8 +1,10 @@
--- What the wear bound counts (01, 'A run, its book and the flash'): S, the active bank's size; L, the most that live records come to at commits; the
--- bytes inserted; and erase requests.
+-- What the wear bound counts (01, 'A run, its book and the flash'; 02, N4): S, the active bank's size; L, the most that live records come to at
+-- commits; the bytes inserted; and erase requests.
 use Prim.Native.Nat.{ℕ, zero, suc, _+_, max}
 use mathlib.Core.List.{List, [], _∷_}
+use mathlib.Core.Bool.{Bool, true, cond}
 use mathlib.Core.Option.{Option, none, some}
+use lib.Dec.{eqb}
 use Rattle.bank.specs.Bank.{Slot, empty, invalid, valid}
 use Rattle.bank.specs.Totals.{liveTotal}
 use Rattle.book.specs.Edit.{grows}
@@ -25,13 +27,21 @@ liveAt b (edit e) = 0
 liveAt b (lookup key typ) = 0
 liveAt b (fetch key typ) = 0
 liveAt b figures = 0
-liveAt b (commit room) = slotLive (activeSlot b)
+liveAt b (commit way room) = slotLive (activeSlot b)
 liveAt b (wholeImage room) = 0
 
--- L: the most that it comes to at the commits of a list, refused ones too
-unfoldable pub mostLive : List Page → ℕ
-mostLive [] = 0
-mostLive (p ∷ ps) = max (liveAt (p .before) (p .event .call)) (mostLive ps)
+-- the commits that L is over, by their numbers: all, refused ones too (01), or accepted ones alone (02, N4)
+
+abbrev pub allCommits : ℕ → Bool
+allCommits k = true
+
+abbrev pub acceptedCommits : ℕ → Bool
+acceptedCommits k = eqb k 0
+
+-- L: the most that it comes to at those commits of a list
+unfoldable pub mostLive : (ℕ → Bool) → List Page → ℕ
+mostLive counts [] = 0
+mostLive counts (p ∷ ps) = max (cond (counts (number (p .event .answer))) (liveAt (p .before) (p .event .call)) 0) (mostLive counts ps)
 
 -- what a call with this number adds: the record size of an insert that is accepted
 abbrev pub added : Call → ℕ → ℕ
@@ -40,7 +50,7 @@ added (edit e) (suc k) = 0
 added (lookup key typ) k = 0
 added (fetch key typ) k = 0
 added figures k = 0
-added (commit room) k = 0
+added (commit way room) k = 0
 added (wholeImage room) k = 0
 
 -- the record sizes of a list's accepted inserts, summed without a stop

@@ -48,7 +48,7 @@ sub-add-2 c = omega (arith, further (c .before) .more)
 add-requires : tie.Need-add-requires Inv-loop μ-loop
 add-requires c κs = let m = further (c .before) in
     let f = c .before .before .before .before .before .before .loop .inv .small in
-    (subst (λ (l : List ℕ). 36 ≤ length l) (sym (tail (c .before .before .before .before .before .before .before .before .before .args .s .now) (c .before .before .before .before .before .before .loop .at))) (m .long), omega (arith, m .more, m .within, f .0), omega (arith, m .more, m .within, f .1), omega (arith, m .more, m .within, f .2))
+    (subst (λ (l : List ℕ). 36 ≤ length l) (sym (tail (c .before .before .before .before .before .before .before .before .before .args .s .now) (c .before .before .before .before .before .before .loop .at))) (m .long), omega (arith, m .more, m .within, f .0), omega (arith, m .more, m .within, f .1), omega (arith, m .more, m .within, f .2), omega (arith, m .more, m .within, f .3))
 
 loop-less : tie.Need-loop-less Inv-loop μ-loop
 loop-less c = let m = further (c .before .before) in omega (arith, m .more, m .within)

@@ -53,10 +53,13 @@ add-t23 c = search needs
 add-t24 : tie.Need-add-t24
 add-t24 c = search needs
 
+add-t25 : tie.Need-add-t25
+add-t25 c = search needs
+
 returns-3 : tie.Need-returns-3
-returns-3 c = let a = c .before .before .before .before .before .before .before .before .before .before .before .before .before .before .args in
-    rw (not-false (a .counting) (c .before .before .before .before .before .before .before .before .before .before .before .before .if1 .left))
-    (add-live (a .self) (a .s .now) (a .n) (c .before .before .before .before .before .before .before .before .before .before .if2 .left) (c .before .before .before .before .before .before .before .same .result) (c .before .before .before .same2 .result) (c .before .before .before .before .before .before .before .same .ensures) (c .before .before .before .same2 .ensures) (c .before .before .before .before .before .before .count-if .result) (c .before .before .count-if2 .result) (c .before .before .before .before .before .before .count-if .ensures .0) (c .before .before .count-if2 .ensures .0))
+returns-3 c = let a = c .before .before .before .before .before .before .before .before .before .before .before .before .before .before .before .args in
+    rw (not-false (a .counting) (c .before .before .before .before .before .before .before .before .before .before .before .before .before .if1 .left))
+    (add-live (a .self) (a .s .now) (a .n) (c .before .before .before .before .before .before .before .before .before .before .before .if2 .left) (c .before .before .before .before .before .before .before .before .same .result) (c .before .before .before .before .same2 .result) (c .before .before .before .before .before .before .before .before .same .ensures) (c .before .before .before .before .same2 .ensures) (c .before .before .before .before .before .before .before .count-if .result) (c .before .before .before .count-if2 .result) (c .before .before .before .before .before .before .before .count-if .ensures .0) (c .before .before .before .count-if2 .ensures .0))
 
 pub add-spec : {M : Type 1} → statement M
 add-spec =
@@ -78,4 +81,5 @@ add-spec =
     count-if-requires-2
     add-t23
     add-t24
+    add-t25
     returns-3)

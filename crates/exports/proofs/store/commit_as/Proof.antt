@@ -1,14 +1,15 @@
--- `feqyondil_commit`: 6 where the bytes hold no state (`calls-6`), else the contract of `apply` on the state that was loaded, stored again
+-- `commit_as`: 6 where the bytes hold no state (`calls-6`), else the contract of `apply` on the state that was loaded, stored again
 -- (`calls`); there is room to store it since it was read (`read-is`).
 use mathlib.Core.Path.{refl}
 use borrow.Author.Tests.{not-true, not-false}
 use lib.ListN.{length}
 use Rattle.book.specs.Call.{commit}
 use Rattle.requests.specs.Applied.{applied}
+use Rattle.commit.specs.Active.{wayOf}
 use Rattle.state_bytes.proofs.StateLaws.{read-is}
 use Rattle.exports.proofs.StoreLaws.{loaded-none, loaded-some, calls-6, calls}
-use Rattle.exports.proofs.store.feqyondil_commit.Statement.{statement}
-use Rattle.exports.proofs.store.feqyondil_commit.Tie as tie
+use Rattle.exports.proofs.store.commit_as.Statement.{statement}
+use Rattle.exports.proofs.store.commit_as.Tie as tie
 use borrow.Author.Needs.{needs}
 
 load-requires : tie.Need-load-requires
@@ -19,7 +20,7 @@ same-length c = search needs
 
 returns : tie.Need-returns
 returns c = let a = c .before .before .before .before .before .before .before .before .args in
-    calls-6 (commit (length (a .output .now))) (a .state .now) (a .work .now) (a .output .now) _ _ _ (loaded-none _ _ (c .before .before .before .load .ensures) (not-true _ (c .before .if1 .taken))) (record { returned = refl; fields = refl; bytes = refl; rest = refl })
+    calls-6 (commit (wayOf (a .way)) (length (a .output .now))) (a .state .now) (a .work .now) (a .output .now) _ _ _ (loaded-none _ _ (c .before .before .before .load .ensures) (not-true _ (c .before .if1 .taken))) (record { returned = refl; fields = refl; bytes = refl; rest = refl })
 
 apply-requires : tie.Need-apply-requires
 apply-requires c κs = search needs
@@ -42,11 +43,11 @@ same-length-4 c = search needs
 returns-2 : tie.Need-returns-2
 returns-2 c = let a = c .before .before .before .before .before .before .before .before .before .before .before .before .before .before .before .before .before .before .before .before .before .args in
     let d = c .before .before .before .before .before .before .before .before .before .before .apply in
-    calls (commit (length (a .output .now))) (a .state .now) (a .work .now) (a .output .now) _ _ _ _ (loaded-some _ _ (c .before .before .before .before .before .before .before .before .before .before .before .before .before .before .before .before .load .ensures) (not-false _ (c .before .before .before .before .before .before .before .before .before .before .before .before .before .before .if1 .left)))
+    calls (commit (wayOf (a .way)) (length (a .output .now))) (a .state .now) (a .work .now) (a .output .now) _ _ _ _ (loaded-some _ _ (c .before .before .before .before .before .before .before .before .before .before .before .before .before .before .before .before .load .ensures) (not-false _ (c .before .before .before .before .before .before .before .before .before .before .before .before .before .before .if1 .left)))
     (applied (d .result)) _ (record { returned = refl; fields = c .requests .ensures; bytes = refl; rest = d .ensures .1 }) _ _ _ (d .ensures .0) (c .before .before .before .store .ensures)
 
-pub feqyondil-commit-spec : {M : Type 1} → statement M
-feqyondil-commit-spec =
+pub commit-as-spec : {M : Type 1} → statement M
+commit-as-spec =
     tie.close
     (tie.spec
     load-requires
