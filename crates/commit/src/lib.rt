@@ -69,6 +69,7 @@ fn carefully(judged: Judged, live: usize, size: usize) -> Judged
     }
 }
 
+// As an old commit or a careful one is judged.
 fn judge_as(header: StoreHeader, used: Figures, due: bool, way: Way) -> Judged
     requires { ⌜ 24 + used .live < 18446744073709551616 ⌝ }
     ensures { λ r. ⌜ verdict r ≡ judgeAs (wayOf way) header (used .system) (used .common) (24 + used .live) due ⌝ }
