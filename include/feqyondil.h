@@ -39,8 +39,9 @@ extern "C" {
 
 /*
  * Numbers of a call. All but the first refuse, and a refusal changes nothing that was lent, except
- * as feqyondil_same_settings, feqyondil_open, feqyondil_lookup, feqyondil_figures, feqyondil_commit
- * and feqyondil_whole_image say. What to do after each: docs/USING.md, 'Refusals'.
+ * as feqyondil_same_settings, feqyondil_open, feqyondil_lookup, feqyondil_figures,
+ * feqyondil_careful_commit, feqyondil_commit and feqyondil_whole_image say. What to do after each:
+ * docs/USING.md, 'Refusals'.
  */
 #define FEQYONDIL_OK 0u
 #define FEQYONDIL_IMAGE_SHORT 1u   /* the image is below 65,536 bytes */
@@ -54,7 +55,7 @@ extern "C" {
 #define FEQYONDIL_SYSTEM_LIMIT 9u  /* live system records are over the header's limit */
 #define FEQYONDIL_COMMON_LIMIT 10u /* live common records are over the header's limit */
 #define FEQYONDIL_LAST_MOVE 11u    /* the bank is to move, and its generation is 4,294,967,295 */
-#define FEQYONDIL_MOVED_OVER 12u   /* the bank has moved, and its live records are over its size */
+#define FEQYONDIL_MOVED_OVER 12u   /* the bank has to move, and its live records are over its size */
 #define FEQYONDIL_BANK_OVER 13u    /* a Valid bank's total is over its size */
 #define FEQYONDIL_BANK_LENGTH 14u  /* a bank to compare is not 65,536 bytes */
 
@@ -255,13 +256,15 @@ size_t feqyondil_value(const uint8_t *state, size_t state_len, const uint8_t *wo
 uint32_t feqyondil_figures(const uint8_t *state, size_t state_len, const uint8_t *work, size_t work_len,
                            uint64_t figures[3]);
 
-/* Places in what feqyondil_commit asks for. */
+/* Places in what a commit asks for. */
 #define FEQYONDIL_ERASE 0u        /* 1, or 0 where no bank is to be erased */
 #define FEQYONDIL_ERASE_OFFSET 1u
 #define FEQYONDIL_WRITE_OFFSET 2u
 #define FEQYONDIL_WRITE_LENGTH 3u /* of the front of output */
 
 /*
+ * The commit that a new board should call.
+ *
  * Answers what to do to the flash so that it holds the active bank, and puts the bytes to write at
  * the front of output, which has at least 65,536; output behind them stays. Where the bank is full
  * it moves to the next one, its live values only, and that one becomes active.
@@ -272,11 +275,9 @@ uint32_t feqyondil_figures(const uint8_t *state, size_t state_len, const uint8_t
  * again: the state takes both as done. The state's tally counts the erase requests since the
  * opening and stops at 4,294,967,295.
  *
- * Refusals: 6, 5, 7, 9, 10, 11, in this order; requests then gets zeros and the rest stays as it
- * was. Last 12: output stays, but state and work area have moved, the tally has counted, and
- * requests has the erase, with zeros for the write. After 12, leave the flash alone and open it
- * again: carried out, that erase is of the next bank, and the next commit may ask for the erase of
- * the only good one.
+ * Refusals: 6, 5, 7, 9, 10, 11, 12, in this order. Each leaves state, tally, work area and output as
+ * they were and asks for nothing: requests gets zeros. 12 is where the bank has to move, and its
+ * header and live records are over its size: remove some, and commit again.
  *
  * POWER CUTS. Written from the first byte to the last, a commit that is cut off can lose what was
  * stored: of the 48 cut points of a strike count that is committed in place, 33 lose the count and
@@ -287,6 +288,20 @@ uint32_t feqyondil_figures(const uint8_t *state, size_t state_len, const uint8_t
  * or it can bring back what was cut off: docs/USING.md, 'Power cuts', says how. With one bank, a
  * move that is cut off loses the store in any order. A commit in steps that is proved against power
  * cuts is to come with a later version.
+ */
+uint32_t feqyondil_careful_commit(uint8_t *state, size_t state_len, uint8_t *work, size_t work_len, uint8_t *output,
+                                  size_t output_len, uint64_t requests[4]);
+
+/*
+ * The older commit, for boards that call it already. What feqyondil_careful_commit accepts it
+ * accepts too, with the same bytes and the same power cuts; but it moves before it knows whether the
+ * live records fit.
+ *
+ * Refusals: 6, 5, 7, 9, 10, 11, in this order; requests then gets zeros and the rest stays as it
+ * was. Last 12: output stays, but state and work area have moved, the tally has counted, and
+ * requests has the erase, with zeros for the write. After 12, leave the flash alone and open it
+ * again: carried out, that erase is of the next bank, and the next commit may ask for the erase of
+ * the only good one.
  */
 uint32_t feqyondil_commit(uint8_t *state, size_t state_len, uint8_t *work, size_t work_len, uint8_t *output,
                           size_t output_len, uint64_t requests[4]);

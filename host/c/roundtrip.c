@@ -30,7 +30,7 @@ static void insert(uint8_t value) {
 /* The erase and the write of a commit, as flash does them; whether there was an erase. */
 static int commit(void) {
     uint64_t at, count;
-    check(feqyondil_commit(STORE, output, sizeof output, requests) == FEQYONDIL_OK, "commit");
+    check(feqyondil_careful_commit(STORE, output, sizeof output, requests) == FEQYONDIL_OK, "commit");
     at = requests[FEQYONDIL_WRITE_OFFSET];
     count = requests[FEQYONDIL_WRITE_LENGTH];
     check(at + count <= FLASH && count == SIZE, "the write's place");
@@ -93,15 +93,41 @@ static unsigned turns(void) {
     return erases;
 }
 
-/* After 12 the state has moved, and the flash opens as before. */
-static void over(void) {
+static void insert_too_much(void) {
     static const uint8_t long_value[SIZE];
-    uint32_t active = number_at(FEQYONDIL_STATE_ACTIVE);
     check(feqyondil_insert(STORE, KEY, long_value, SIZE, FEQYONDIL_COMMON) == FEQYONDIL_OK, "a long insert");
+}
+
+/* After 12 of the older commit the state has moved, and the flash opens as before. */
+static void over(void) {
+    uint32_t active = number_at(FEQYONDIL_STATE_ACTIVE);
+    insert_too_much();
     check(feqyondil_commit(STORE, output, sizeof output, requests) == FEQYONDIL_MOVED_OVER, "12");
     check(number_at(FEQYONDIL_STATE_ACTIVE) != active, "12 moves");
     reopen();
     check(number_at(FEQYONDIL_STATE_ACTIVE) == active, "the flash after 12");
+    find(TURNS);
+}
+
+/* 12 of the careful commit asks for nothing and changes nothing; it is accepted when the long value is removed. */
+static void over_carefully(void) {
+    static const uint64_t nothing[4];
+    static uint8_t old_state[sizeof state], old_work[sizeof work], old_output[sizeof output];
+    insert_too_much();
+    memcpy(old_state, state, sizeof state);
+    memcpy(old_work, work, sizeof work);
+    memcpy(old_output, output, sizeof output);
+    for (int again = 0; again < 2; again++) {
+        memset(requests, 7, sizeof requests);
+        check(feqyondil_careful_commit(STORE, output, sizeof output, requests) == FEQYONDIL_MOVED_OVER, "careful 12");
+        check(memcmp(requests, nothing, sizeof requests) == 0, "careful 12 asks for something");
+        check(memcmp(old_state, state, sizeof state) == 0, "the state after a careful 12");
+        check(memcmp(old_work, work, sizeof work) == 0, "the work area after a careful 12");
+        check(memcmp(old_output, output, sizeof output) == 0, "the output after a careful 12");
+    }
+    check(feqyondil_remove(STORE, KEY, FEQYONDIL_COMMON) == FEQYONDIL_OK, "remove");
+    check(commit() == 1 && number_at(FEQYONDIL_STATE_TALLY) == 1, "the move after a careful 12");
+    reopen();
     find(TURNS);
 }
 
@@ -179,11 +205,18 @@ static void nulls_of_edits(void) {
     check(feqyondil_remove(STORE, NONE, COMMON) == FEQYONDIL_OK, "null: remove, key");
 }
 
+typedef uint32_t commit_call(uint8_t *, size_t, uint8_t *, size_t, uint8_t *, size_t, uint64_t *);
+
+static void nulls_of_commit(commit_call *call) {
+    check(call(NONE, WORK, output, FLASH, requests) == FEQYONDIL_NOT_SOUND, "null: commit, state");
+    check(call(STATE, NONE, output, FLASH, requests) == FEQYONDIL_NOT_SOUND, "null: commit, work");
+    check(call(STORE, NONE, requests) == FEQYONDIL_OUTPUT_SHORT, "null: commit, output");
+}
+
 /* Of what reads and writes flash. */
 static void nulls_of_flash(void) {
-    check(feqyondil_commit(NONE, WORK, output, FLASH, requests) == FEQYONDIL_NOT_SOUND, "null: commit, state");
-    check(feqyondil_commit(STATE, NONE, output, FLASH, requests) == FEQYONDIL_NOT_SOUND, "null: commit, work");
-    check(feqyondil_commit(STORE, NONE, requests) == FEQYONDIL_OUTPUT_SHORT, "null: commit, output");
+    nulls_of_commit(feqyondil_commit);
+    nulls_of_commit(feqyondil_careful_commit);
     check(feqyondil_whole_image(NONE, WORK, output, FLASH, length) == FEQYONDIL_NOT_SOUND, "null: image, state");
     check(feqyondil_whole_image(STATE, NONE, output, FLASH, length) == FEQYONDIL_NOT_SOUND, "null: image, work");
     check(feqyondil_whole_image(STORE, NONE, length) == FEQYONDIL_OUTPUT_SHORT, "null: image, output");
@@ -197,9 +230,10 @@ int main(void) {
     format(SIZE);
     erases = turns();
     check(erases == 1, "erases");
-    over();
     settings();
     causes();
+    over();
+    over_carefully();
     nulls_of_banks();
     nulls_of_edits();
     nulls_of_flash();

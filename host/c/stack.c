@@ -1,7 +1,7 @@
 /*
  * How much stack each call takes: each runs on a stack of its own, filled with one byte before, and
  * what it wrote over is counted; first on a bank that is nearly empty, then on one that is full, whose
- * commit moves. Fails where a call takes more than docs/USING.md says.
+ * commits move. Fails where a call takes more than docs/USING.md says.
  */
 #define _XOPEN_SOURCE 700
 
@@ -37,6 +37,7 @@ static void lookup(void) { answer = feqyondil_lookup(STORE, KEY, FEQYONDIL_SYSTE
 static void fetch(void) { answer = (uint32_t)feqyondil_value(STORE, KEY, FEQYONDIL_SYSTEM, output, sizeof output); }
 static void figures(void) { answer = feqyondil_figures(STORE, numbers); }
 static void commit(void) { answer = feqyondil_commit(STORE, output, sizeof output, numbers); }
+static void careful_commit(void) { answer = feqyondil_careful_commit(STORE, output, sizeof output, numbers); }
 static void whole_image(void) { answer = feqyondil_whole_image(STORE, output, sizeof output, numbers); }
 /* Of the bank that the commit before it wrote. */
 static void same_settings(void) {
@@ -61,9 +62,16 @@ static const struct {
     {"figures", figures},
     {"whole_image", whole_image},
     {"commit", commit},
+    {"careful_commit", careful_commit},
     {"same_settings", same_settings},
     {"remove", remove_key},
 };
+
+/* Inserts until the bank has to move. */
+static void fill(void) {
+    for (int k = 0; k < 64; k++)
+        insert();
+}
 
 /* The stack is used from its end downward. */
 static size_t used_by(void (*call)(void)) {
@@ -91,11 +99,14 @@ int main(void) {
                 most = used;
                 name = calls[i].name;
             }
-            for (int k = 0; full && calls[i].call == insert && k < 64; k++)
-                insert();
+            if (full && (calls[i].call == insert || calls[i].call == commit))
+                fill();
         }
     }
-    check(answer == FEQYONDIL_OK && feqyondil_state_number(state, FEQYONDIL_STATE_ACTIVE) == 1, "the full bank has moved");
+    /* To the Empty bank by one commit, and back by the other, which asks for an erase. */
+    check(answer == FEQYONDIL_OK && feqyondil_state_number(state, FEQYONDIL_STATE_ACTIVE) == 0 &&
+              feqyondil_state_number(state, FEQYONDIL_STATE_TALLY) == 1,
+          "the full bank has moved twice");
     printf("stack: at most %zu bytes, by feqyondil_%s\n", most, name);
     check(most <= MOST, "more than docs/USING.md says");
     return 0;

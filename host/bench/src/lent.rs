@@ -4,6 +4,9 @@ use feqyondil::state::{ENTRY_SIZE, ENTRY_TOTAL, ENTRY_USABLE, STATE_ACTIVE, STAT
 use feqyondil::{PART_SIZE, STATE_SIZE};
 use image::{number, put_number, Record, BANK, RECORD};
 
+/// Which commit of the port it is.
+pub const OLD: bool = false;
+pub const CAREFUL: bool = true;
 /// What an insert puts in the place of the last record's value.
 pub const VALUE: &[u8] = b"another value of 19";
 
@@ -66,7 +69,7 @@ impl Lent {
     pub fn insert<const COMMIT: bool>(&mut self, key: &[u8]) -> u32 {
         let before = self.state;
         feqyondil::lent::insert(&mut self.state, &mut self.work, key, VALUE, 1);
-        let done = if COMMIT { self.commit(key) } else { 1 };
+        let done = if COMMIT { self.commit::<OLD>(key) } else { 1 };
         let len = RECORD + key.len() + 1 + VALUE.len();
         self.work[self.end..self.end + len].fill(0xFF);
         self.state = before;
@@ -78,17 +81,20 @@ impl Lent {
         self.revive()
     }
 
-    pub fn commit(&mut self, _: &[u8]) -> u32 {
+    pub fn commit<const WAY: bool>(&mut self, _: &[u8]) -> u32 {
+        let commit = match WAY {
+            OLD => feqyondil::lent::commit,
+            CAREFUL => feqyondil::lent::careful_commit,
+        };
         let (state, work) = (&mut self.state, &mut self.work);
-        let number = feqyondil::lent::commit(state, work, &mut self.output, &mut [0; 4]);
-        u32::from(number == 0)
+        u32::from(commit(state, work, &mut self.output, &mut [0; 4]) == 0)
     }
 
     /// With one byte less usable than there are records, which makes the bank move.
-    pub fn commit_moved(&mut self, key: &[u8]) -> u32 {
+    pub fn commit_moved<const WAY: bool>(&mut self, key: &[u8]) -> u32 {
         let (usable, total) = (self.entry() + ENTRY_USABLE, self.total());
         put_number(&mut self.state, usable, total as u32 - 1);
-        self.commit(key)
+        self.commit::<WAY>(key)
     }
 
     pub fn whole(&mut self, _: &[u8]) -> u32 {

@@ -20,7 +20,7 @@ use measure::Report;
 #[derive(Parser)]
 #[command(about = "Times the Rust and the port in turns, and says which bars the port meets")]
 struct Words {
-    /// More and longer rounds: some 90 seconds in place of 4
+    /// More and longer rounds: some 140 seconds in place of 6
     #[arg(long)]
     long: bool,
 }

@@ -1,5 +1,6 @@
 //! Every call on 2 and 16 banks, nearly empty and full.
 
+use std::cell::RefCell;
 use std::hint::black_box;
 
 use feqyondil::{Tables, CRC32_TABLE_ENTRIES};
@@ -8,24 +9,35 @@ use oracle::v3;
 use crate::blocks;
 use crate::case::{cases, strikes, Case, INSERT_ROOM, ROOM};
 use crate::checksum::scalar;
-use crate::lent::Lent;
+use crate::lent::{Lent, CAREFUL, OLD};
 use crate::measure::{Contender, Report};
 use crate::trusting::*;
 
-/// A name, and the Rust's and the port's call on a key.
-type Call = (&'static str, fn(&mut v3::Nvram, &[u8]) -> u32, fn(&mut Lent, &[u8]) -> u32);
+/// The port's call on a key.
+type PortCall = fn(&mut Lent, &[u8]) -> u32;
+/// A name, and the Rust's and the port's call.
+type Call = (&'static str, fn(&mut v3::Nvram, &[u8]) -> u32, PortCall);
 
 const EDITS: [Call; 2] = [
     ("insert", rust_insert::<false>, Lent::insert::<false>),
     ("remove", rust_remove, Lent::remove),
 ];
-const COMMITS: [Call; 3] = [
-    ("commit in place", rust_commit, Lent::commit),
+const COMMITS: [Call; 4] = [
+    ("commit in place", rust_commit, Lent::commit::<OLD>),
+    ("careful commit in place", rust_commit, Lent::commit::<CAREFUL>),
     ("insert and commit", rust_insert::<true>, Lent::insert::<true>),
     ("whole image", rust_whole, Lent::whole),
 ];
 /// Without a bar, and last, since every one leaves its bank for the next.
-const MOVE: Call = ("commit with a move", rust_move, Lent::commit_moved);
+const MOVES: [Call; 2] = [
+    ("commit with a move", rust_move, Lent::commit_moved::<OLD>),
+    ("careful commit with a move", rust_move, Lent::commit_moved::<CAREFUL>),
+];
+/// A name, and both commits of the port.
+const BOTH: [(&str, [PortCall; 2]); 2] = [
+    ("in place", [Lent::commit::<OLD>, Lent::commit::<CAREFUL>]),
+    ("with a move", [Lent::commit_moved::<OLD>, Lent::commit_moved::<CAREFUL>]),
+];
 
 pub fn run(report: &mut Report) {
     report.say("call after call; the port first goes through its whole work area, 131,072 bytes");
@@ -75,15 +87,17 @@ fn rust_in_blocks(tables: &Tables, lent: &Lent, key: &[u8]) -> u32 {
 
 pub fn run_commits(report: &mut Report) {
     report.say("as above; the Rust's writer takes the bytes and does nothing with them");
-    let strikes = Case::new(2, "full of strike counts", strikes(INSERT_ROOM), 1.5);
-    let cases = cases(INSERT_ROOM).into_iter().chain([strikes]);
-    cases.for_each(|case| commits(&case, report));
+    let strikes = [2, 16].map(|n| Case::new(n, "full of strike counts", strikes(INSERT_ROOM), 1.5));
+    for case in cases(INSERT_ROOM).into_iter().chain(strikes) {
+        commits(&case, report);
+        both_commits(&case, report);
+    }
 }
 
 fn commits(case: &Case, report: &mut Report) {
     let (key, (mut lent, mut store)) = (&case.last().key, case.opened());
     let mut checksums = |_: &[u8]| checksums(case);
-    for (call, rust, port) in COMMITS.into_iter().chain([MOVE]) {
+    for (i, (call, rust, port)) in COMMITS.into_iter().chain(MOVES).enumerate() {
         let contenders: &mut [Contender] = &mut [
             ("Rust", &mut |key| rust(&mut store, key)),
             ("port", &mut |key| port(&mut lent, key)),
@@ -91,8 +105,21 @@ fn commits(case: &Case, report: &mut Report) {
         ];
         let title = format!("{call}, {}", case.name);
         // With 2 banks the ratios have a bar.
-        let barred = case.banks == 2 && call != MOVE.0;
+        let barred = case.banks == 2 && i < COMMITS.len();
         report.table(&title, contenders, key, barred.then_some(case.most));
+    }
+}
+
+fn both_commits(case: &Case, report: &mut Report) {
+    let (key, (lent, _)) = (&case.last().key, case.opened());
+    let lent = RefCell::new(lent);
+    for (how, [old, careful]) in BOTH {
+        let contenders: &mut [Contender] = &mut [
+            ("port commit", &mut |key| old(&mut lent.borrow_mut(), key)),
+            ("port careful commit", &mut |key| careful(&mut lent.borrow_mut(), key)),
+        ];
+        let title = format!("careful commit {how} over the old one of ours, {}", case.name);
+        report.table(&title, contenders, key, Some(1.03));
     }
 }
 
@@ -139,9 +166,8 @@ mod tests {
         for case in &cases(INSERT_ROOM)[..2] {
             let (key, (mut lent, mut store)) = (&case.last().key, check(case, &COMMITS));
             assert_eq!(store.serialize().unwrap(), lent.output);
-            for generation in 3..7 {
-                assert_eq!(rust_move(&mut store, key), 1);
-                assert_eq!(lent.commit_moved(key), 1);
+            for (generation, (call, rust, port)) in (3..7).zip(MOVES.iter().cycle()) {
+                assert_eq!((rust(&mut store, key), port(&mut lent, key)), (1, 1), "{call}");
                 let bank = peek::active_bank(&mut store);
                 assert_eq!(bank.header.generation, generation);
                 assert_eq!(bank.values.len(), case.records.len());

@@ -17,7 +17,7 @@ mod value;
 
 pub use bank::{slot, Slot};
 pub use bytes::{content, Bytes};
-pub use call::Call;
+pub use call::{Call, Reach};
 pub use change::{Behind, Change, RecordField, HEADER_FIELDS, RECORD_FIELDS};
 pub use damage::{Damage, Place};
 pub use pair::{pair, Other, Pair};

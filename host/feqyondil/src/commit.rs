@@ -15,7 +15,8 @@ pub struct Commit<'o> {
     pub bytes: &'o [u8],
 }
 
-/// A refused commit. Refusal 12 is a case of its own, since it leaves the store moved.
+/// A refused [`commit`](crate::Store::commit). Refusal 12 is a case of its own, since it leaves the
+/// store moved; a [`careful_commit`](crate::Store::careful_commit) has no such case.
 #[derive(Clone, Copy, Debug, Eq, PartialEq)]
 pub enum NotCommitted {
     /// Nothing has changed.
@@ -45,25 +46,49 @@ impl Display for NotCommitted {
     }
 }
 
-/// What a commit's number and requests mean, with the output after it. An answer that the library
-/// does not promise is a fault of its own, and ends the program.
+/// What a commit's number and requests mean, with the output after it.
 pub(crate) fn told(
     number: u32,
     requests: [u64; 4],
     output: &[u8],
 ) -> Result<Commit<'_>, NotCommitted> {
+    let (erase, done) = read(number, requests, output);
+    done.map_err(|refusal| match refusal {
+        Refusal::MovedOver => NotCommitted::Moved { erase },
+        refusal => NotCommitted::Refused(refusal),
+    })
+}
+
+/// The same of a careful commit, of which no refusal asks for anything.
+pub(crate) fn told_carefully(
+    number: u32,
+    requests: [u64; 4],
+    output: &[u8],
+) -> Result<Commit<'_>, Refusal> {
+    match read(number, requests, output).1 {
+        Err(_) if requests != [0; 4] => panic!("the library answered {requests:?}"),
+        done => done,
+    }
+}
+
+/// The erase that is asked for, and the commit or why there is none. An answer that the library
+/// does not promise is a fault of its own, and ends the program.
+fn read(
+    number: u32,
+    requests: [u64; 4],
+    output: &[u8],
+) -> (Option<usize>, Result<Commit<'_>, Refusal>) {
     let [asked, at, offset, length] = requests.map(|r| r as usize);
     let erase = match (asked, at) {
         (0, 0) => None,
         (1, at) => Some(at),
         _ => panic!("the library answered {requests:?}"),
     };
-    match (Refusal::check(number), output.get(..length)) {
-        (Ok(()), Some(bytes)) => Ok(Commit { erase, offset, bytes }),
-        (Ok(()), None) => panic!("the library answered {requests:?}"),
-        (Err(Refusal::MovedOver), _) => Err(NotCommitted::Moved { erase }),
-        (Err(refusal), _) => Err(NotCommitted::Refused(refusal)),
-    }
+    let done = Refusal::check(number).map(|()| match output.get(..length) {
+        Some(bytes) => Commit { erase, offset, bytes },
+        None => panic!("the library answered {requests:?}"),
+    });
+    (erase, done)
 }
 
 #[cfg(test)]
@@ -74,5 +99,18 @@ mod tests {
     #[should_panic(expected = "the library answered [1, 0, 0, 3]")]
     fn more_bytes_than_were_lent_are_a_fault() {
         let _ = told(0, [1, 0, 0, 3], &[7; 2]);
+    }
+
+    #[test]
+    fn a_12_asks_for_an_erase_or_for_nothing() {
+        let moved = NotCommitted::Moved { erase: Some(65_536) };
+        assert_eq!(told(12, [1, 65_536, 0, 0], &[]), Err(moved));
+        assert_eq!(told_carefully(12, [0; 4], &[]), Err(Refusal::MovedOver));
+    }
+
+    #[test]
+    #[should_panic(expected = "the library answered [1, 65536, 0, 0]")]
+    fn a_careful_refusal_with_an_erase_is_a_fault() {
+        let _ = told_carefully(12, [1, 65_536, 0, 0], &[]);
     }
 }

@@ -69,6 +69,15 @@ extern "C" {
         output_len: usize,
         requests: *mut [u64; 4],
     ) -> u32;
+    fn feqyondil_careful_commit(
+        state: *mut u8,
+        state_len: usize,
+        work: *mut u8,
+        work_len: usize,
+        output: *mut u8,
+        output_len: usize,
+        requests: *mut [u64; 4],
+    ) -> u32;
     fn feqyondil_whole_image(
         state: *const u8,
         state_len: usize,
@@ -150,11 +159,35 @@ pub fn commit(
     output: &mut [u8],
     requests: &mut [u64; 4],
 ) -> u32 {
+    commit_by(feqyondil_commit, state, work, output, requests)
+}
+
+/// The same, but 12 comes before the move: after any refusal `requests` is all 0, and nothing else
+/// has changed.
+pub fn careful_commit(
+    state: &mut [u8],
+    work: &mut [u8],
+    output: &mut [u8],
+    requests: &mut [u64; 4],
+) -> u32 {
+    commit_by(feqyondil_careful_commit, state, work, output, requests)
+}
+
+type CommitCall =
+    unsafe extern "C" fn(*mut u8, usize, *mut u8, usize, *mut u8, usize, *mut [u64; 4]) -> u32;
+
+fn commit_by(
+    call: CommitCall,
+    state: &mut [u8],
+    work: &mut [u8],
+    output: &mut [u8],
+    requests: &mut [u64; 4],
+) -> u32 {
     let (state, state_len) = (state.as_mut_ptr(), state.len());
     let (work, work_len) = (work.as_mut_ptr(), work.len());
     let (output, output_len) = (output.as_mut_ptr(), output.len());
-    // SAFETY: as above.
-    unsafe { feqyondil_commit(state, state_len, work, work_len, output, output_len, requests) }
+    // SAFETY: as above; the call is one of the two commits.
+    unsafe { call(state, state_len, work, work_len, output, output_len, requests) }
 }
 
 /// Joins the Valid banks in `output`: 0, 5, 6 or 13; `length` becomes how many bytes they are.

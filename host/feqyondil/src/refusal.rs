@@ -46,7 +46,7 @@ refusals! {
     SystemLimit = 9, "live system records are over the header's limit";
     CommonLimit = 10, "live common records are over the header's limit";
     LastMove = 11, "the bank is to move, and its generation is 4,294,967,295";
-    MovedOver = 12, "the bank has moved, and its live records are over its size";
+    MovedOver = 12, "the bank has to move, and its live records are over its size";
     BankOver = 13, "a Valid bank's total is over its size";
     BankLength = 14, "a bank to compare is not 65,536 bytes";
 }

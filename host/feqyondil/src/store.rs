@@ -108,6 +108,9 @@ impl<'a> Store<'a> {
         Ok(figures::told(figures))
     }
 
+    /// The commit that a new board should call. Whatever it refuses, it asks for nothing and leaves
+    /// everything as it was.
+    ///
     /// Answers what to do to the flash so that it holds the active bank; the bytes to write are at
     /// the front of `output`, which has at least [`BANK_SIZE`](crate::BANK_SIZE). Where the bank is
     /// full it moves to the next one, its live values only, and that one becomes active.
@@ -116,12 +119,25 @@ impl<'a> Store<'a> {
     /// its erase or its write fails, the caller opens the flash again: the store takes both as
     /// done.
     ///
+    /// Refusals: OutputShort, NotValid, SystemLimit, CommonLimit, LastMove, MovedOver, in this
+    /// order. MovedOver is where the bank has to move, and header and live records are over its
+    /// size: remove some, and commit again.
+    ///
+    /// POWER CUTS. Written from the first byte to the last, a commit that is cut off may lose what
+    /// was stored: include/feqyondil.h at feqyondil_careful_commit, and docs/USING.md.
+    pub fn careful_commit<'o>(&mut self, output: &'o mut [u8]) -> Result<Commit<'o>, Refusal> {
+        let mut requests = [u64::MAX; 4];
+        let number = lent::careful_commit(&mut self.state, self.work, output, &mut requests);
+        commit::told_carefully(number, requests, output)
+    }
+
+    /// The older commit, for boards that call it already. What
+    /// [`careful_commit`](Store::careful_commit) accepts it accepts too, with the same bytes and the
+    /// same power cuts; but it moves before it knows whether the live records fit.
+    ///
     /// Refusals: OutputShort, NotValid, SystemLimit, CommonLimit, LastMove, in this order. Last
     /// MovedOver, as [`NotCommitted::Moved`]: leave the flash alone, without the erase, and open it
     /// again.
-    ///
-    /// POWER CUTS. Written from the first byte to the last, a commit that is cut off may lose what
-    /// was stored: include/feqyondil.h at feqyondil_commit, and docs/USING.md.
     pub fn commit<'o>(&mut self, output: &'o mut [u8]) -> Result<Commit<'o>, NotCommitted> {
         let mut requests = [u64::MAX; 4];
         let number = lent::commit(&mut self.state, self.work, output, &mut requests);

@@ -1,25 +1,27 @@
 //! The comparisons can fail: faults planted in the port are found among random inputs, and made as
 //! small as is said.
 
+mod careful;
 mod causes;
 mod faults;
 mod figures;
 mod settings;
 
 use feqyondil::bank_cause;
-use proptest::strategy::Strategy;
+use proptest::strategy::{Just, Strategy};
 
 use super::any_state::AnyState;
 use super::banks::{self, Banks, PortReader};
 use super::checksum::{self, Checksum};
 use super::runs::Runs;
-use crate::describe::{case, run, Bytes, Run, Style};
+use crate::describe::{case, run, Bytes, Reach, Run, Style};
 use crate::judge::{Comparison, Difference, Judge, Mode, Part};
 use crate::partition::lent::{self, Lending};
 use crate::partition::slot::Slot;
 use crate::partition::Read;
 use crate::store::fixed::two_banks;
 use crate::store::lent::port::{Done, Port};
+use careful::*;
 use faults::*;
 use figures::*;
 
@@ -28,8 +30,17 @@ fn found<C: Comparison>(
     comparison: &C,
     strategy: impl Strategy<Value = C::Input> + 'static,
 ) -> Difference<C::Input> {
+    found_from(1, comparison, strategy)
+}
+
+/// The same from this seed on, on which it depends how small a difference becomes.
+fn found_from<C: Comparison>(
+    seed: u64,
+    comparison: &C,
+    strategy: impl Strategy<Value = C::Input> + 'static,
+) -> Difference<C::Input> {
     let inputs = Part::drawn("", 20_000, strategy).inputs;
-    let found = Judge::new(Mode::Short, 1).part(comparison, "", inputs);
+    let found = Judge::new(Mode::Short, seed).part(comparison, "", inputs);
     found.expect_err("a difference")
 }
 
@@ -82,6 +93,18 @@ const MOVING_RUNS: [Row; 15] = [
     (wraps_with_11, 3, 2, &["01:   11, erase 0"]),
 ];
 
+const CAREFUL_RUNS: [Row; 9] = [
+    (counts_with_12, 2, 2, &["01's state:   n ", "tally 0", "tally 1"]),
+    (asks_with_12, 2, 2, &["01:   12, erase 0 at 0", "port: 12, erase 1 at "]),
+    (writes_with_12, 2, 2, &["01:   12, erase 0 at 0", "from 0 on, 01: a5", "port: ff"]),
+    (moves_before_12, 2, 2, &["01's state: ", "port's state: "]),
+    (leaves_the_move_in_the_work_area, 2, 2, &["the work area from ", " on, 01: "]),
+    (takes_the_total, 3, 2, &["01:   0, erase ", "port: 12, erase 0 at 0"]),
+    (is_a_byte_early, 3, 2, &["01:   0, erase ", "port: 12, erase 0 at 0"]),
+    (is_a_byte_late, 2, 2, &["01:   12, erase 0 at 0", "port: 0, erase 0 at 0"]),
+    (says_12_before_11, 2, 2, &["01:   11, erase 0 at 0", "port: 12, erase 0 at 0"]),
+];
+
 const ANY_STATE: [Row; 2] = [
     (skips_entries, 0, 0, &["01:   6, found 0"]),
     (wraps_the_tally, 1, 2, &["tally 4294967295", "tally 0"]),
@@ -98,11 +121,12 @@ fn small((_, calls, records, words): Row, size: (usize, usize), told: &str) {
 
 #[test]
 fn faults_are_found_in_runs() {
-    let moving = || Style { tame: 0, ..Style::small() };
+    let moving = || Style { reach: Just(Reach::Free).boxed(), ..Style::small() };
     let rows = RUNS.map(|row| (Style::store(), row)).into_iter();
-    for (style, row) in rows.chain(MOVING_RUNS.map(|row| (moving(), row))) {
+    let rows = rows.chain(MOVING_RUNS.map(|row| (moving(), row)));
+    for (style, row) in rows.chain(CAREFUL_RUNS.map(|row| (Style::careful(), row))) {
         let runs = Runs { port: planted(row.0) };
-        let Difference { input, why } = found(&runs, run(&style, 20, false));
+        let Difference { input, why } = found_from(10, &runs, run(&style, 20, false));
         let size = (input.calls.len(), input.image.records());
         small(row, size, &format!("{input}\n{why}"));
     }

@@ -10,7 +10,7 @@ use super::list::list;
 use super::style::Style;
 use super::value::{Room, Value};
 use crate::store::book::{Bank, Book, LIVE};
-use crate::store::lent::call::{self, What};
+use crate::store::lent::call::{self, Way, What};
 
 #[derive(Clone, Debug, PartialEq)]
 pub enum Call {
@@ -21,7 +21,7 @@ pub enum Call {
     Value(Var, usize),
     Figures,
     /// With room for so many bytes more than it needs.
-    Commit(isize),
+    Commit(Way, isize),
     Whole(isize),
     /// As it is.
     Made(call::Call),
@@ -37,19 +37,34 @@ pub enum Var {
     Live(usize),
 }
 
+/// How far inserts bring the live records of a bank.
+#[derive(Clone, Copy, Debug, PartialEq)]
+pub enum Reach {
+    /// As far as they go.
+    Free,
+    /// Over the bank's size; where they are, a record is removed in place of an insert, and a
+    /// commit is a careful one.
+    Over,
+    /// To the bank's size: a value is cut, and where the record itself has no room one is removed.
+    Size,
+}
+
 impl Call {
-    /// On the store of this book, where it was opened. With `within` a value is cut so that the
-    /// live records stay within the bank's size, and where they cannot a record is removed.
-    pub fn made(&self, book: Option<&Book>, within: bool) -> call::Call {
+    /// On the store of this book, where it was opened.
+    pub fn made(&self, book: Option<&Book>, reach: Reach) -> call::Call {
         let bank = book.and_then(Book::active_bank);
         let banks = book.map_or(1, |book| book.slots.len()) as isize;
         let room = |more: isize, need: isize| (need + more).max(0) as usize;
         let (what, var) = match self {
             Call::Made(call) => return call.clone(),
             Call::Figures => return call::Call::figures(),
-            Call::Commit(more) => return call::Call::commit(room(*more, BANK as isize)),
+            Call::Commit(way, more) => {
+                let way = if reach == Reach::Over && is_over(bank) { Way::Careful } else { *way };
+                let what = What::Commit(way, room(*more, BANK as isize));
+                return call::Call::new(what, b"", 0);
+            }
             Call::Whole(more) => return call::Call::whole(room(*more, banks * BANK as isize)),
-            Call::Insert(var, value) => return insert(var, value, bank, within),
+            Call::Insert(var, value) => return insert(var, value, bank, reach),
             Call::Remove(var) => (What::Remove, var),
             Call::Lookup(var) => (What::Lookup, var),
             Call::Value(var, room) => (What::Value(*room), var),
@@ -59,19 +74,26 @@ impl Call {
     }
 }
 
-fn insert(var: &Var, value: &Value, bank: Option<&Bank>, within: bool) -> call::Call {
+fn insert(var: &Var, value: &Value, bank: Option<&Bank>, reach: Reach) -> call::Call {
     let (key, typ) = var.made(bank);
     let mut value = value.made(bank, key.len());
-    if let (Some(bank), true) = (bank, within) {
-        let Ok(room) = usize::try_from(Room::Size.left(bank, key.len())) else {
-            let (key, typ) = Var::Live(0).made(Some(bank));
-            let what = What::Remove;
-            return call::Call { what, key, typ };
-        };
-        value.truncate(room);
-    }
+    let room = match (reach, bank) {
+        (Reach::Size, Some(bank)) => Room::Size.left(bank, key.len()),
+        (Reach::Over, bank) if is_over(bank) => -1,
+        _ => isize::MAX,
+    };
+    let Ok(room) = usize::try_from(room) else {
+        let (key, typ) = Var::Live(0).made(bank);
+        return call::Call { what: What::Remove, key, typ };
+    };
+    value.truncate(room);
     let what = What::Insert(value);
     call::Call { what, key, typ }
+}
+
+/// The live records are over the bank's size.
+fn is_over(bank: Option<&Bank>) -> bool {
+    bank.is_some_and(|bank| bank.live() > bank.header.size as usize)
 }
 
 impl Var {
@@ -126,7 +148,8 @@ pub fn call(style: &Style) -> impl Strategy<Value = Call> {
         5 => var(style).prop_map(Call::Lookup),
         3 => value.prop_map(|(var, room)| Call::Value(var, room)),
         2 => Just(Call::Figures),
-        style.commits => room().prop_map(Call::Commit),
+        style.commits => (style.way.clone(), room())
+            .prop_map(|(way, room)| Call::Commit(way, room)),
         1 => room().prop_map(Call::Whole),
         3 + style.inserts => edit(style),
     ]
@@ -143,10 +166,10 @@ mod tests {
     use ::image::Header;
 
     /// A bank of size 200 with a live record of 39 bytes, and a value for its key.
-    fn made(value: Value, within: bool) -> What {
+    fn made(value: Value, reach: Reach) -> What {
         let image = ::image::bank(&Header::new(200, 1), &[Record::live(b"k", b"v")]);
         let book = Book::open(&image, usize::MAX).unwrap();
-        Call::Insert(Var::Live(3), value).made(Some(&book), within).what
+        Call::Insert(Var::Live(3), value).made(Some(&book), reach).what
     }
 
     #[test]
@@ -154,11 +177,29 @@ mod tests {
         let room = |room, more| Value::Room(room, more, Some(7));
         let insert = |len| What::Insert(vec![7; len]);
         // 24 and 39 bytes are used, and the record has 38 before its value.
-        assert_eq!(made(room(Room::Usable, 1), false), insert(100));
-        assert_eq!(made(room(Room::Size, 0), false), insert(99));
-        assert_eq!(made(room(Room::Part, -1), false), insert(131_072 - 102));
-        assert_eq!(made(room(Room::Gap, 2), false), insert(2));
-        assert_eq!(made(room(Room::Part, 0), true), insert(99));
-        assert_eq!(made(Value::Of(Bytes::Fill(3, 7)), true), insert(3));
+        assert_eq!(made(room(Room::Usable, 1), Reach::Free), insert(100));
+        assert_eq!(made(room(Room::Size, 0), Reach::Free), insert(99));
+        assert_eq!(made(room(Room::Part, -1), Reach::Free), insert(131_072 - 102));
+        assert_eq!(made(room(Room::Gap, 2), Reach::Free), insert(2));
+        assert_eq!(made(room(Room::Part, 0), Reach::Size), insert(99));
+        assert_eq!(made(Value::Of(Bytes::Fill(3, 7)), Reach::Size), insert(3));
+    }
+
+    #[test]
+    fn over_the_size_a_record_is_removed() {
+        let image = ::image::bank(&Header::new(100, 1), &[Record::live(b"k", b"v")]);
+        let insert =
+            |len| Call::Insert(Var::Of(Bytes::of(b"a"), 1), Value::Of(Bytes::Fill(len, 7)));
+        let mut book = Book::open(&image, usize::MAX).unwrap();
+        let commit = Call::Commit(Way::Old, 0);
+        let over = insert(1).made(Some(&book), Reach::Over);
+        assert_eq!(over.what, What::Insert(vec![7]));
+        assert_eq!(commit.made(Some(&book), Reach::Over), call::Call::commit(BANK));
+        book.answer(&over);
+        let remove = call::Call::new(What::Remove, b"k", 1);
+        assert_eq!(insert(0).made(Some(&book), Reach::Over), remove);
+        assert_eq!(insert(0).made(Some(&book), Reach::Free).what, What::Insert(vec![]));
+        assert_eq!(commit.made(Some(&book), Reach::Over), call::Call::careful(BANK));
+        assert_eq!(commit.made(Some(&book), Reach::Free), call::Call::commit(BANK));
     }
 }

@@ -6,7 +6,7 @@ use proptest::prelude::*;
 use proptest::sample::select;
 
 use super::bank::keep;
-use super::call::{calls, Call};
+use super::call::{calls, Call, Reach};
 use super::image::{image, Image};
 use super::list::needed;
 use super::style::Style;
@@ -20,8 +20,7 @@ use crate::store::run;
 pub struct Run {
     pub calls: Vec<Call>,
     pub image: Image,
-    /// Values are cut so that the live records stay within a bank's size.
-    pub within: bool,
+    pub reach: Reach,
     /// Bytes of state, and of work area beyond those that the banks need.
     pub state: usize,
     pub spare: isize,
@@ -36,7 +35,7 @@ impl Run {
         Run {
             calls: made.calls.iter().cloned().map(Call::Made).collect(),
             image: Image::of(&made.image),
-            within: false,
+            reach: Reach::Free,
             state: made.state,
             spare: made.spare,
             standing: made.standing,
@@ -52,16 +51,16 @@ impl Run {
             standing: self.standing,
             calls: Vec::new(),
         };
-        made.calls = made_calls(&self.calls, made.opened().ok(), self.within);
+        made.calls = made_calls(&self.calls, made.opened().ok(), self.reach);
         made
     }
 }
 
 /// Each on the store that those before it leave.
-pub fn made_calls(calls: &[Call], mut book: Option<Book>, within: bool) -> Vec<call::Call> {
+pub fn made_calls(calls: &[Call], mut book: Option<Book>, reach: Reach) -> Vec<call::Call> {
     let mut out = Vec::with_capacity(calls.len());
     for call in calls {
-        let call = call.made(book.as_ref(), within);
+        let call = call.made(book.as_ref(), reach);
         if let Some(book) = &mut book {
             book.answer(&call);
         }
@@ -95,8 +94,7 @@ pub fn standing(alone: bool) -> BoxedStrategy<Standing> {
     }
 }
 
-/// Unless it is tame, it may bring the live records over a bank's size, and now and then more is
-/// lent than needed, or less.
+/// Where its inserts go as far as they go, now and then more is lent than needed, or less.
 pub fn run(style: &Style, most: usize, alone: bool) -> impl Strategy<Value = Run> {
     let state = select(&[0, 12, STATE - 1, STATE + 1, STATE + 60, 1000][..]);
     let spare = select(&[-1, -131_072, 1, 1000, 131_072, isize::MIN / 2][..]);
@@ -104,7 +102,7 @@ pub fn run(style: &Style, most: usize, alone: bool) -> impl Strategy<Value = Run
     let spare = prop_oneof![7 => Just(0), 1 => spare];
     (
         image(style),
-        prop::bool::weighted(f64::from(style.tame) / 8.0),
+        style.reach.clone(),
         calls(style, most),
         state,
         spare,
@@ -112,16 +110,9 @@ pub fn run(style: &Style, most: usize, alone: bool) -> impl Strategy<Value = Run
         prop::bool::weighted(0.25),
         needed(RECORDS),
     )
-        .prop_map(|(mut image, within, calls, state, spare, standing, by_store, needed)| {
+        .prop_map(|(mut image, reach, calls, state, spare, standing, by_store, needed)| {
             keep(&mut image.slots, &needed);
-            Run {
-                calls,
-                image,
-                within,
-                state: if within { STATE } else { state },
-                spare: if within { 0 } else { spare },
-                standing,
-                by_store,
-            }
+            let (state, spare) = if reach == Reach::Free { (state, spare) } else { (STATE, 0) };
+            Run { calls, image, reach, state, spare, standing, by_store }
         })
 }

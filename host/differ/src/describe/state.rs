@@ -8,7 +8,7 @@ use proptest::sample::select;
 
 use super::bank::keep;
 use super::bytes::{lend, Bytes};
-use super::call::{call, calls, Call};
+use super::call::{call, calls, Call, Reach};
 use super::damage::{damage, field, numbers, Damage, Place};
 use super::image::{image, Image};
 use super::list::{list, needed};
@@ -52,7 +52,7 @@ impl Case {
     pub fn made(&self) -> fuzz::Case {
         let image = self.image.made();
         let mut book = Book::open(&image, usize::MAX).ok();
-        let calls = made_calls(&self.calls, book.clone(), false);
+        let calls = made_calls(&self.calls, book.clone(), Reach::Free);
         if let Some(book) = &mut book {
             calls.iter().for_each(|call| drop(book.answer(call)));
             book.tally = self.tally;
@@ -61,7 +61,7 @@ impl Case {
         let mut case = fuzz::Case {
             state: state.to_vec(),
             work: book.as_ref().map_or(vec![0; PART], Book::work),
-            call: self.call.made(book.as_ref(), false),
+            call: self.call.made(book.as_ref(), Reach::Free),
         };
         let slots = book.map_or(Vec::new(), |book| book.slots);
         for damage in &self.damages {

@@ -5,8 +5,10 @@ use proptest::prelude::*;
 use proptest::sample::select;
 
 use super::bytes::{content, key, odd, with_record, Bytes};
+use super::call::Reach;
 use super::damage::NUMBERS;
 use super::value::{Room, Value};
+use crate::store::lent::call::Way;
 
 /// Few keys, so that a bank has several records of one.
 const KEYS: [&[u8]; 6] = [b"a", b"", b"b", b"rate", b"\0", b"\xFF\xFF\xFF"];
@@ -38,8 +40,9 @@ pub struct Style {
     /// How many inserts and commits there are to five lookups.
     pub inserts: u32,
     pub commits: u32,
-    /// How many runs of eight keep the live records within the size, and lend what is needed.
-    pub tame: u32,
+    /// Which commits they are.
+    pub way: BoxedStrategy<Way>,
+    pub reach: BoxedStrategy<Reach>,
 }
 
 impl Style {
@@ -88,7 +91,8 @@ impl Style {
             insert: insert.boxed(),
             inserts: 9,
             commits: 3,
-            tame: 0,
+            way: select(&[Way::Old, Way::Careful][..]).boxed(),
+            reach: Just(Reach::Free).boxed(),
         }
     }
 
@@ -124,9 +128,14 @@ impl Style {
             insert: insert.boxed(),
             inserts: 20,
             commits: 14,
-            tame: 7,
+            reach: reach(2),
             ..Style::store()
         }
+    }
+
+    /// The same with careful commits alone, of which many are refused with 12.
+    pub fn careful() -> Self {
+        Style { way: Just(Way::Careful).boxed(), reach: reach(6), ..Style::small() }
     }
 
     /// Two small banks or more with nothing behind their records, and keys and values that a write
@@ -156,10 +165,16 @@ impl Style {
             bank_of: 3,
             damaged_of: None,
             insert: prop_oneof![4 => value().prop_map(Value::Of), 3 => room].boxed(),
-            tame: 8,
+            reach: Just(Reach::Size).boxed(),
             ..Style::store()
         }
     }
+}
+
+/// So many of eight go over a bank's size, one as far as it goes, and the others stay within.
+fn reach(over: u32) -> BoxedStrategy<Reach> {
+    let (free, over_size, size) = (Just(Reach::Free), Just(Reach::Over), Just(Reach::Size));
+    prop_oneof![1 => free, over => over_size, 7 - over => size].boxed()
 }
 
 /// Mostly once; in so many of 25 as often as there is room for.

@@ -17,7 +17,7 @@ impl Book {
     /// What a call answers; an accepted edit changes the active bank, a commit may move it.
     pub fn answer(&mut self, call: &Call) -> Answer {
         match call.what {
-            What::Commit(room) => self.commit(call, room),
+            What::Commit(way, room) => self.commit(call, way, room),
             What::Whole(room) => self.whole(call, room),
             What::Lookup | What::Value(_) => self.lookup(call),
             What::Figures => self.figures(call),

@@ -9,7 +9,7 @@ use image::{put_number, BANK};
 use super::fuzz::{self, Case};
 use super::lent::call::{Call, What};
 use super::lent::{Port, Standing};
-use super::run::counts::{Counts, RUST_CALLED, RUST_OPENED};
+use super::run::counts::{Counts, ERASES, MOVES, RUST_CALLED, RUST_OPENED};
 use super::run::{compare, Run};
 use super::rust;
 
@@ -41,7 +41,7 @@ fn the_rust_panics_where_the_active_slot_is_not_valid() {
     let image = [vec![0xFF; BANK], plain(0)].concat();
     let panics = Err("it panics".to_string());
     let [lookup, remove] = [What::Lookup, What::Remove].map(|what| Call::new(what, b"", 1));
-    for call in [lookup, remove, insert(0), Call::figures(), commit()] {
+    for call in [lookup, remove, insert(0), Call::figures(), commit(), careful()] {
         assert_eq!(rust_answers(&image, &call), panics);
         assert_eq!(judged(&image, vec![call]).numbers.of(7), 1);
     }
@@ -92,6 +92,14 @@ fn commit() -> Call {
     Call::commit(BANK)
 }
 
+fn careful() -> Call {
+    Call::careful(BANK)
+}
+
+fn remove() -> Call {
+    Call::new(What::Remove, b"", 0)
+}
+
 /// What the Rust answers to the last of the calls.
 fn rust_says(image: &[u8], calls: &[Call]) -> String {
     let mut rust = rust::Rust::open(image).unwrap().unwrap();
@@ -101,41 +109,70 @@ fn rust_says(image: &[u8], calls: &[Call]) -> String {
 
 #[test]
 fn the_rust_moves_past_the_last_generation() {
-    let calls = vec![insert(0), Call::new(What::Remove, b"", 0), commit()];
     let image = plain(u32::MAX);
-    let rust = rust_says(&image, &calls);
-    let written = "0, erase 1 at 0, write at 0, length 24, output 3356564e1800000000000000ffff01";
-    assert!(rust.starts_with(written), "{rust}");
-    let counts = judged(&image, calls);
-    assert_eq!((counts.numbers.of(11), counts.others.of(RUST_CALLED)), (1, 2));
+    for last in [commit(), careful()] {
+        let calls = vec![insert(0), remove(), last];
+        let rust = rust_says(&image, &calls);
+        let written =
+            "0, erase 1 at 0, write at 0, length 24, output 3356564e1800000000000000ffff01";
+        assert!(rust.starts_with(written), "{rust}");
+        let counts = judged(&image, calls);
+        assert_eq!((counts.numbers.of(11), counts.others.of(RUST_CALLED)), (1, 2));
+    }
+}
+
+/// No limit, and as much room as there can be.
+fn unlimited() -> Vec<u8> {
+    let mut image = plain(1);
+    put_number(&mut image, 4, BANK as u32);
+    image
+}
+
+#[test]
+fn the_rust_moves_before_it_refuses() {
+    // 24 bytes of header, 37 of the record, and one too many.
+    let long = insert(BANK - 24 - 37 + 1);
+    let rust = rust_says(&unlimited(), &[long.clone(), commit()]);
+    assert!(rust.starts_with("12, erase 1 at 0, write at 0, length 0"), "{rust}");
+    let told = |calls: &[Call]| {
+        let counts = judged(&unlimited(), calls.to_vec());
+        let of = |name| counts.others.of(name);
+        (counts.numbers.of(12), of(ERASES), of(MOVES), of(RUST_CALLED))
+    };
+    assert_eq!(told(&[long.clone(), commit()]), (1, 1, 1, 2));
+    assert_eq!(told(&[long, careful(), careful()]), (2, 0, 0, 3));
+    assert_eq!(told(&[insert(BANK - 24 - 37), careful()]), (0, 0, 0, 2));
+}
+
+#[test]
+fn after_a_careful_12_the_rust_is_asked_again() {
+    let counts = judged(&plain(1), vec![insert(0), careful(), remove(), careful()]);
+    assert_eq!((counts.careful.of(12), counts.careful.of(0)), (1, 1));
+    assert_eq!(counts.others.of(RUST_CALLED), 3);
 }
 
 #[test]
 fn the_rust_has_one_word_for_three_refusals() {
     // No system record is allowed, no common one, and none at all after the move.
-    let mut unlimited = plain(1);
-    put_number(&mut unlimited, 4, BANK as u32);
     let limited = |at: usize| {
-        let mut image = unlimited.clone();
+        let mut image = unlimited();
         put_number(&mut image, at, 0);
         image
     };
     let system = Call::new(What::Insert(vec![]), b"", 1);
-    for (image, put, number) in [
-        (limited(16), system, 9),
-        (limited(20), insert(0), 10),
-        (unlimited.clone(), insert(BANK), 12),
-    ] {
-        let counts = judged(&image, vec![put, commit()]);
-        assert_eq!((counts.numbers.of(number), counts.others.of(RUST_CALLED)), (1, 2));
+    for (image, put, number) in
+        [(limited(16), system, 9), (limited(20), insert(0), 10), (unlimited(), insert(BANK), 12)]
+    {
+        let counts = judged(&image, vec![put, careful(), commit()]);
+        assert_eq!((counts.numbers.of(number), counts.others.of(RUST_CALLED)), (2, 3));
     }
 }
 
 #[test]
 fn an_output_that_is_too_short_is_refused() {
-    let calls = vec![Call::commit(BANK - 1), Call::whole(BANK - 1)];
-    let counts = judged(&plain(1), calls);
-    assert_eq!((counts.numbers.of(5), counts.others.of(RUST_CALLED)), (2, 0));
+    let calls = [Call::commit, Call::careful, Call::whole].map(|call| call(BANK - 1));
+    let counts = judged(&plain(1), calls.to_vec());
+    assert_eq!((counts.numbers.of(5), counts.others.of(RUST_CALLED)), (3, 0));
 }
 
 /// Set for a process that may not have much memory.

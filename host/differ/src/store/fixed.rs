@@ -1,6 +1,7 @@
 //! Runs without a random number: the fixed list of small images, each made for one thing to be
 //! seen, also as text with the oracle's answers, and the bench case of two banks.
 
+mod careful;
 mod commits;
 pub mod edges;
 mod figures;
@@ -15,12 +16,12 @@ use super::lent::call::Call;
 use super::run::Run;
 use pieces::{ending, get, held, put, remove, value, Named};
 
-/// The list's runs.
+/// The list's runs, and those with calls that the oracle cannot be asked.
 pub fn runs() -> Vec<Run> {
-    list().into_iter().map(|(_, run)| run).collect()
+    list().into_iter().chain(careful::others()).map(|(_, run)| run).collect()
 }
 
-/// The whole list with the oracle's answers.
+/// The list with the oracle's answers.
 pub fn text() -> Result<String, String> {
     replay::text(&list())
 }
@@ -33,6 +34,7 @@ fn list() -> Vec<Named> {
     out.extend(kills());
     out.extend(figures::list());
     out.extend(commits::list());
+    out.extend(careful::list());
     out
 }
 

@@ -23,7 +23,7 @@ pub fn compare(case: &Case, port: Port, standing: Standing) -> Result<bool, Stri
     let said = match book {
         Some(mut book) => {
             let said = book.answer(&case.call);
-            if said.changes() {
+            if case.call.changes(&said) {
                 state[..STATE].copy_from_slice(&book.state().bytes());
                 let at = book.active * PART;
                 work[at..at + PART].copy_from_slice(&book.slots[book.active].part());

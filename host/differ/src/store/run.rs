@@ -109,7 +109,10 @@ impl<'a> Sides<'a> {
             Err(_) => (call.refused(6), false, false),
         };
         self.counts.called(call, &said, asked);
-        self.keep(&said);
+        let changes = call.changes(&said);
+        if changes {
+            self.keep();
+        }
         let rust = match &mut self.rust {
             Some(rust) if within => Some(rust.answer(call)),
             _ => None,
@@ -125,7 +128,7 @@ impl<'a> Sides<'a> {
         self.same(lent)?;
         if rust.is_some() {
             self.rust_same(&said)?;
-        } else if said.changes() {
+        } else if changes {
             // What the Rust was not asked has changed the book.
             self.rust = None;
         }
@@ -147,8 +150,8 @@ impl<'a> Sides<'a> {
     }
 
     /// After an accepted edit or a move the active bank's part and entry are new.
-    fn keep(&mut self, said: &Answer) {
-        if let (Ok(book), true) = (&self.book, said.changes()) {
+    fn keep(&mut self) {
+        if let Ok(book) = &self.book {
             let at = book.active * PART;
             self.work[at..at + PART].copy_from_slice(&book.slots[book.active].part());
             self.state[..STATE].copy_from_slice(&book.state().bytes());

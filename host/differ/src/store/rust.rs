@@ -10,7 +10,7 @@ use image::{BANK, HEADER, RECORD};
 use oracle::{v3, Nvram, Partition, VarType};
 
 use super::book::{Bank, Book, Slot, PART};
-use super::lent::call::{lent, Answer, Call, What};
+use super::lent::call::{lent, Answer, Call, Way, What};
 use super::lent::state::{EMPTY, INVALID, VALID};
 use crate::partition::rust::{figure, header, record};
 use requests::Requests;
@@ -18,6 +18,10 @@ use told::Told;
 
 /// An opened image.
 pub struct Rust<'a> {
+    image: &'a [u8],
+    /// The edits and commits since, but for careful ones that were refused with 12: the store can
+    /// be made again of these.
+    done: Vec<Call>,
     store: v3::Nvram<'a>,
     told: Told,
 }
@@ -30,7 +34,7 @@ impl<'a> Rust<'a> {
             return Ok(None);
         };
         let told = Told::read(&format!("{store:?}"))?;
-        Ok(Some(Rust { store, told }))
+        Ok(Some(Rust { image, done: Vec::new(), store, told }))
     }
 
     /// The opened flash, of which 01 says what the slots are and the Rust which is active. It is
@@ -53,7 +57,7 @@ impl<'a> Rust<'a> {
             active: *active,
         };
         match count == valid.len() {
-            true => Ok(Rust { store, told }),
+            true => Ok(Rust { image: flash, done: Vec::new(), store, told }),
             false => Err(format!("{count} banks are Valid in it")),
         }
     }
@@ -62,28 +66,19 @@ impl<'a> Rust<'a> {
     /// image; no bank that is to be written is over its size.
     pub fn answer(&mut self, call: &Call) -> Result<Answer, String> {
         guarded(|| match call.what {
-            What::Commit(room) => self.commit(room),
+            What::Commit(way, room) => self.commit(call, way, room),
             What::Whole(room) => self.whole(room),
             What::Figures => self.figures(),
-            _ => Ok(self.ask(call)),
+            What::Insert(_) | What::Remove => {
+                edit(&mut self.store, call);
+                self.done.push(call.clone());
+                Ok(Answer::Number(0))
+            }
+            What::Lookup | What::Value(_) => Ok(self.found(call)),
         })?
     }
 
-    fn ask(&mut self, call: &Call) -> Answer {
-        let typ = match call.typ {
-            0 => VarType::Common,
-            _ => VarType::System,
-        };
-        let bank = self.store.active_part_mut();
-        match &call.what {
-            What::Insert(value) => bank.insert_variable(&call.key, Cow::Owned(value.clone()), typ),
-            What::Remove => bank.remove_variable(&call.key, typ),
-            _ => return self.found(call, typ),
-        }
-        Answer::Number(0)
-    }
-
-    fn commit(&mut self, room: usize) -> Result<Answer, String> {
+    fn commit(&mut self, call: &Call, way: Way, room: usize) -> Result<Answer, String> {
         let refusal = refusal(peek::active_bank(&mut self.store))?;
         let mut requests = Requests::default();
         let number = match self.store.apply(&mut requests) {
@@ -92,6 +87,12 @@ impl<'a> Rust<'a> {
             Err(other) => return Err(format!("{other:?}")),
         };
         let (asked, written) = requests.told()?;
+        if (way, number) == (Way::Careful, 12) {
+            // It has moved, and is put away as the copy that was asked.
+            self.store = self.made_again()?;
+            return Ok(call.refused(12));
+        }
+        self.done.push(call.clone());
         let offset = asked[2] as usize;
         if number == 12 || asked[0] == 1 || number == 0 && offset != self.told.active * BANK {
             self.told = Told::read(&format!("{:?}", self.store))?;
@@ -109,10 +110,23 @@ impl<'a> Rust<'a> {
         Ok(Answer::Whole(0, bytes.len() as u64, lent(room, &bytes)))
     }
 
-    fn found(&mut self, call: &Call, typ: VarType) -> Answer {
+    /// The store before a commit that is not among `done`, since it cannot be cloned.
+    fn made_again(&self) -> Result<v3::Nvram<'a>, String> {
+        let mut store = v3::Nvram::parse(self.image).map_err(|e| format!("{e:?}"))?;
+        for call in &self.done {
+            match call.what {
+                // What it answers was looked at the first time.
+                What::Commit(..) => drop(store.apply(&mut Requests::default())),
+                _ => edit(&mut store, call),
+            }
+        }
+        Ok(store)
+    }
+
+    fn found(&mut self, call: &Call) -> Answer {
         let active = self.told.active;
         let bank = peek::active_bank(&mut self.store);
-        let Some(found) = bank.get_variable(&call.key, typ) else {
+        let Some(found) = bank.get_variable(&call.key, typ(call)) else {
             return call.refused(0);
         };
         let at = peek::place(bank, found).expect("a record of the bank");
@@ -171,6 +185,24 @@ fn refusal(bank: &v3::Partition) -> Result<u32, String> {
     })
 }
 
+/// An insert or a remove.
+fn edit(store: &mut v3::Nvram, call: &Call) {
+    let bank = store.active_part_mut();
+    match &call.what {
+        What::Insert(value) => {
+            bank.insert_variable(&call.key, Cow::Owned(value.clone()), typ(call))
+        }
+        _ => bank.remove_variable(&call.key, typ(call)),
+    }
+}
+
+fn typ(call: &Call) -> VarType {
+    match call.typ {
+        0 => VarType::Common,
+        _ => VarType::System,
+    }
+}
+
 /// Bytes of a record.
 fn size(variable: &v3::Variable) -> usize {
     RECORD + variable.key.len() + 1 + variable.value.len()
@@ -178,13 +210,16 @@ fn size(variable: &v3::Variable) -> usize {
 
 #[cfg(test)]
 mod tests {
+    use super::super::lent::call::ROOM;
     use super::*;
     use image::{Header, Record, BANK};
 
+    fn held() -> Vec<u8> {
+        image::bank(&Header::default(), &[Record::live(b"rate", b"123456789")])
+    }
+
     fn image() -> Vec<u8> {
-        let record = Record::live(b"rate", b"123456789");
-        let valid = image::bank(&Header::default(), &[record]);
-        [vec![0; BANK], valid, vec![0xFF; BANK]].concat()
+        [vec![0; BANK], held(), vec![0xFF; BANK]].concat()
     }
 
     #[test]
@@ -210,6 +245,28 @@ mod tests {
             rust.answer(&insert).unwrap();
         }
         assert_eq!(rust.answer(&Call::figures()), Ok(Answer::Figures(0, [42, 42, 3])));
+    }
+
+    #[test]
+    fn a_careful_12_leaves_its_store_as_it_was() {
+        let header = Header { common_limit: u32::MAX, ..Header::default() };
+        let image = [image::bank(&header, &[]), held()].concat();
+        let mut rust = Rust::open(&image).unwrap().unwrap();
+        let insert = |len| Call::new(What::Insert(vec![7; len]), b"k", 0);
+        let [old, careful] = [Call::commit(BANK), Call::careful(BANK)];
+        // It has moved once, and goes on with one record live and one dead.
+        for call in [insert(60_000), insert(60_000), careful.clone(), insert(BANK)] {
+            rust.answer(&call).unwrap();
+        }
+        let (before, told) = (format!("{:?}", rust.store), rust.book(0).unwrap());
+        assert_eq!((told.active, told.active_bank().unwrap().records.len()), (1, 2));
+        for _ in 0..2 {
+            assert_eq!(rust.answer(&careful), Ok(careful.refused(12)));
+            assert!(format!("{:?}", rust.store) == before);
+        }
+        let moved = Answer::Commit(12, [1, 0, 0, 0], vec![ROOM; BANK]);
+        assert_eq!(rust.answer(&old), Ok(moved));
+        assert!(format!("{:?}", rust.store) != before);
     }
 
     #[test]

@@ -100,6 +100,62 @@ fn a_move_asks_for_the_erase_of_the_next_bank() {
     assert_eq!(store.whole_image(&mut output), Err(Refusal::BankOver));
 }
 
+/// The erase, if there is one, and the write.
+fn carry_out(flash: &mut [u8], done: Commit) {
+    if let Some(offset) = done.erase {
+        flash[offset..offset + BANK_SIZE].fill(0xFF);
+    }
+    flash[done.offset..][..done.bytes.len()].copy_from_slice(done.bytes);
+}
+
+/// A winder's flash: the first bank has the rate and is active, the second is older.
+fn winder() -> Vec<u8> {
+    let mut flash = [image(), image()].concat();
+    flash[8] = 2; // the generation
+    let (mut work, mut output) = (work(2), vec![0; BANK_SIZE]);
+    let mut store = Store::open(&flash, &mut work).unwrap();
+    store.insert(b"rate", b"123456789", System).unwrap();
+    carry_out(&mut flash, store.careful_commit(&mut output).unwrap());
+    flash
+}
+
+#[test]
+fn a_winder_that_retries_12_erases_its_good_bank_by_the_old_commit() {
+    let (mut flash, mut first, mut second) = (winder(), work(2), work(2));
+    let mut store = Store::open(&flash, &mut first).unwrap();
+    store.insert(b"log", &[7; BANK_SIZE], Common).unwrap();
+    for (bank, opens) in [(1, Ok(())), (0, Err(Refusal::NoValid))] {
+        let at = bank * BANK_SIZE;
+        let over = NotCommitted::Moved { erase: Some(at) };
+        assert_eq!(store.commit(&mut vec![0; BANK_SIZE]), Err(over));
+        flash[at..at + BANK_SIZE].fill(0xFF);
+        assert_eq!(Store::open(&flash, &mut second).map(drop), opens);
+    }
+}
+
+#[test]
+fn a_winder_that_retries_12_is_asked_for_nothing_by_the_careful_commit() {
+    let (mut flash, mut first, mut second) = (winder(), work(2), work(2));
+    let mut output = vec![7; BANK_SIZE];
+    let mut store = Store::open(&flash, &mut first).unwrap();
+    store.insert(b"log", &[7; BANK_SIZE], Common).unwrap();
+    let before = (*store.state(), store.work().to_vec());
+    for _ in 0..3 {
+        assert_eq!(store.careful_commit(&mut output), Err(Refusal::MovedOver));
+        assert_eq!((store.state(), store.work()), (&before.0, &before.1[..]));
+        assert_eq!(output, [7; BANK_SIZE]);
+    }
+    let rate = Ok(Some(&b"123456789"[..]));
+    assert_eq!(Store::open(&flash, &mut second).unwrap().get(b"rate", System), rate);
+    store.remove(b"log", Common).unwrap();
+    let moved = store.careful_commit(&mut output).unwrap();
+    assert_eq!((moved.erase, moved.offset), (Some(BANK_SIZE), BANK_SIZE));
+    carry_out(&mut flash, moved);
+    assert_eq!(store.tally(), 1);
+    let again = Store::open(&flash, &mut second).unwrap();
+    assert_eq!((again.active(), again.get(b"rate", System)), (1, rate));
+}
+
 #[test]
 fn the_state_is_told() {
     let mut work = work(3);
@@ -134,8 +190,11 @@ fn refusals_are_told() {
     assert_eq!(store.figures(), Err(Refusal::NotValid));
     let refused = |refusal| Err(NotCommitted::Refused(refusal));
     assert_eq!(store.commit(&mut output), refused(Refusal::NotValid));
+    assert_eq!(store.careful_commit(&mut output), Err(Refusal::NotValid));
     let short = store.commit(&mut output[1..]);
     assert_eq!(short, refused(Refusal::OutputShort));
+    let short = store.careful_commit(&mut output[1..]);
+    assert_eq!(short, Err(Refusal::OutputShort));
     let whole = store.whole_image(&mut output);
     assert_eq!(whole, Err(Refusal::OutputShort));
     output.resize(2 * BANK_SIZE, 0);

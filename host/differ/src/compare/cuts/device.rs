@@ -6,7 +6,7 @@ use image::{number, BANK};
 
 use super::reader::{judge, Answers, Reader, Verdict};
 use super::steps::{steps, Order, Step};
-use crate::describe::{self, Action, Plan, SPARE};
+use crate::describe::{self, Action, Plan, Reach, SPARE};
 use crate::partition::cause::Causes;
 use crate::store::book::{sound, Book, PART};
 use crate::store::lent::call::{Answer, Call, What};
@@ -80,7 +80,7 @@ impl Device {
     /// An edit that leaves the live records within the bank's size.
     fn edit(&mut self, call: &describe::Call) -> Result<(), String> {
         let book = sound::book(self.store.state.bytes(), self.store.work.bytes());
-        self.ask(&call.made(book.as_ref(), true))
+        self.ask(&call.made(book.as_ref(), Reach::Size))
     }
 
     pub fn ask(&mut self, call: &Call) -> Result<(), String> {
@@ -123,7 +123,7 @@ impl Device {
     /// A commit; `None` where it is refused, and then the store is opened anew.
     pub fn commit(&mut self) -> Result<Option<Commit>, String> {
         let before = self.state().active;
-        let answer = self.store.ask(&Call::commit(BANK))?;
+        let answer = self.store.ask(&Call::careful(BANK))?;
         if answer.written().is_none() {
             self.log.push("commit, refused".to_string());
             return self.reopen().map(|()| None);

@@ -9,7 +9,7 @@ use crate::store::lent::call::{Answer, Asked, What, NO_REQUEST, ROOM};
 use crate::store::lent::port::Done;
 use crate::store::lent::state::{total_at, usable_at, State, EMPTY, ENTRIES, STATE, VALID};
 
-fn state(bytes: &[u8]) -> State {
+pub fn state(bytes: &[u8]) -> State {
     State::read(bytes).unwrap_or_default()
 }
 
@@ -19,7 +19,7 @@ fn opened(done: &Done, number: u32) -> bool {
 }
 
 /// It is a commit that moved the bank.
-fn moved(done: &Done) -> bool {
+pub fn moved(done: &Done) -> bool {
     matches!(done.answer, Answer::Commit(0, ..)) && done.before.0 != done.state
 }
 
@@ -31,7 +31,7 @@ fn in_place<'a>(done: &'a mut Done) -> Option<&'a mut Vec<u8>> {
     }
 }
 
-fn asked<'a>(done: &'a mut Done) -> &'a mut Asked {
+pub fn asked<'a>(done: &'a mut Done) -> &'a mut Asked {
     match &mut done.answer {
         Answer::Commit(_, asked, _) => asked,
         other => panic!("no commit: {other}"),
@@ -45,7 +45,7 @@ fn active<'a>(done: &'a mut Done) -> (usize, &'a mut [u8]) {
 }
 
 /// State and work area as they were, and this number for an answer.
-fn refuse(done: &mut Done, number: u32) {
+pub fn refuse(done: &mut Done, number: u32) {
     done.state.copy_from_slice(&done.before.0);
     done.work.copy_from_slice(&done.before.1);
     done.answer = done.call.expect("a call").refused(number);

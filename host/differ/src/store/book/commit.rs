@@ -1,18 +1,19 @@
-//! The commit and the whole image by the words of the scope paper (01), 'A commit, from the entry
-//! down', 'Edits and lookups' and 'Refusals': written from them and from neither side's code.
+//! The commits and the whole image by the words of the scope paper (01), 'A commit, from the entry
+//! down', 'Edits and lookups' and 'Refusals', and of N4 of the change requests (02): written from
+//! them and from neither side's code.
 
 use image::{BANK, COMMON_GUID, SYSTEM_GUID};
 
 use super::bank::{Bank, Slot};
 use super::list::Book;
-use crate::store::lent::call::{lent, Answer, Call};
+use crate::store::lent::call::{lent, Answer, Call, Way};
 
 /// No generation comes after it.
 const LAST: u32 = 4_294_967_295;
 
 impl Book {
     /// What a commit answers that was lent this much output; one that moves changes the book.
-    pub fn commit(&mut self, call: &Call, room: usize) -> Answer {
+    pub fn commit(&mut self, call: &Call, way: Way, room: usize) -> Answer {
         if room < BANK {
             return call.refused(5);
         }
@@ -31,6 +32,9 @@ impl Book {
         }
         if header.generation == LAST {
             return call.refused(11);
+        }
+        if way == Way::Careful && bank.live() > header.size as usize {
+            return call.refused(12);
         }
         let moved = bank.moved();
         let erase = self.move_on(moved);
@@ -127,11 +131,24 @@ mod tests {
         assert_eq!(book.answer(&call), Answer::Number(0));
     }
 
-    fn requests(book: &mut Book) -> (u32, [u64; 4]) {
-        match book.answer(&Call::commit(BANK)) {
+    fn asked(book: &mut Book, call: &Call) -> (u32, [u64; 4]) {
+        match book.answer(call) {
             Answer::Commit(number, requests, _) => (number, requests),
             other => panic!("{other}"),
         }
+    }
+
+    fn requests(book: &mut Book) -> (u32, [u64; 4]) {
+        asked(book, &Call::commit(BANK))
+    }
+
+    /// The number by which either commit is refused that changes nothing and asks for nothing.
+    fn refused(book: &mut Book) -> u32 {
+        let before = book.clone();
+        let [old, careful] = [Call::commit(BANK), Call::careful(BANK)].map(|c| asked(book, &c));
+        assert_eq!((old, &*book), (careful, &before));
+        assert_eq!(old.1, [0; 4]);
+        old.0
     }
 
     #[test]
@@ -157,24 +174,38 @@ mod tests {
     #[test]
     fn refusals_come_in_order() {
         let mut book = opened(&[bank(200, u32::MAX)]);
-        let short = Call::commit(BANK - 1);
-        assert_eq!(book.answer(&short), short.refused(5));
+        for short in [Call::commit(BANK - 1), Call::careful(BANK - 1)] {
+            assert_eq!(book.answer(&short), short.refused(5));
+        }
         insert(&mut book, 8150, 1);
         insert(&mut book, 8153, 0);
-        assert_eq!(requests(&mut book).0, 9);
+        assert_eq!(refused(&mut book), 9);
         insert(&mut book, 8113, 1);
-        assert_eq!(requests(&mut book).0, 10);
+        assert_eq!(refused(&mut book), 10);
         insert(&mut book, 8152, 0);
-        let before = book.clone();
-        assert_eq!(requests(&mut book).0, 11);
-        assert_eq!(book, before);
+        assert_eq!(refused(&mut book), 11);
         book.active_bank_mut().unwrap().header.generation = 1;
         assert_eq!(requests(&mut book), (12, [1, 0, 0, 0]));
         assert_eq!((book.tally, book.state().entries[0].total), (1, 16_408));
         let whole = Call::whole(BANK);
         assert_eq!(book.answer(&whole), whole.refused(13));
         let mut other = opened(&[vec![0; BANK], bank(200, 0)]);
-        assert_eq!(requests(&mut other).0, 7);
+        assert_eq!(refused(&mut other), 7);
+    }
+
+    #[test]
+    fn a_careful_commit_is_refused_before_it_moves() {
+        let careful = Call::careful(BANK);
+        let mut book = opened(&[bank(200, 5), bank(200, 4)]);
+        // What is left beside the header, the live record and the new one's 40 bytes.
+        let left = 200 - 24 - 39 - 40;
+        insert(&mut book, left + 1, 1);
+        let before = book.clone();
+        assert_eq!(asked(&mut book, &careful), (12, [0; 4]));
+        assert_eq!(book, before);
+        insert(&mut book, left, 1);
+        assert_eq!(asked(&mut book, &careful), (0, [1, 65_536, 65_536, 200]));
+        assert_eq!((book.active, book.tally, book.state().entries[1].total), (1, 1, 200));
     }
 
     #[test]

@@ -1,8 +1,10 @@
 //! The runs of the fixed list with commits and whole images.
 
-use image::{put_number, Header, Record, BANK, COMMON_GUID, HEADER, RECORD};
+use image::{put_number, Header, Record, BANK, COMMON_GUID, RECORD};
 
-use super::pieces::{ending, get, held, put, remove, value, Named};
+use super::pieces::{
+    dead_past_size, ending, fill_and, get, held, put, remove, unlimited, value, whole, Named,
+};
 use crate::store::lent::call::Call;
 use crate::store::run::Run;
 
@@ -49,7 +51,7 @@ fn moves() -> Vec<Named> {
     let on = |banks: Vec<Vec<u8>>| Run::new(banks.concat(), full_and_more());
     let full = [0, 1, 2, 3].map(|i| put(b"k", &[i; BANK - 74 - RECORD - 2], 0));
     let round = full.iter().flat_map(|put| [put.clone(), commit()]);
-    let three = [unlimited(7), held(5), held(6)].concat();
+    let three = [unlimited(held(7)), held(5), held(6)].concat();
     let whole_too = [full_and_more(), vec![whole(1)]].concat();
     vec![
         ("move-to-empty", on(vec![held(2), empty()])),
@@ -59,7 +61,7 @@ fn moves() -> Vec<Named> {
         ("move-onto-itself", Run::new(held(1), whole_too)),
         ("move-to-the-last-generation", on(vec![held(u32::MAX - 1), held(3)])),
         ("move-round-three", Run::new(three, round.clone().collect())),
-        ("move-round-one", Run::new(unlimited(1), round.collect())),
+        ("move-round-one", Run::new(unlimited(held(1)), round.collect())),
     ]
 }
 
@@ -85,9 +87,8 @@ fn limits() -> Vec<Named> {
 
 /// What is too much after a move.
 fn over_size() -> Vec<Named> {
-    let room = vec![0x41; BANK - 74 - RECORD - 2];
     let over = vec![
-        put(b"k", &room, 0),
+        fill_and(0),
         put(b"more", b"", 1),
         commit(),
         commit(),
@@ -97,10 +98,10 @@ fn over_size() -> Vec<Named> {
     ];
     // With one bank none is left that is over its size.
     let over_and_whole = [over.clone(), vec![whole(1)]].concat();
-    let empty = [unlimited(1), vec![0xFF; BANK]].concat();
-    let valid = [unlimited(1), held(1)].concat();
+    let empty = [unlimited(held(1)), vec![0xFF; BANK]].concat();
+    let valid = [unlimited(held(1)), held(1)].concat();
     vec![
-        ("over-after-the-move", Run::new(unlimited(1), over_and_whole)),
+        ("over-after-the-move", Run::new(unlimited(held(1)), over_and_whole)),
         ("over-after-a-move-to-empty", Run::new(empty, over.clone())),
         ("over-after-a-move-to-valid", Run::new(valid, over)),
     ]
@@ -108,13 +109,7 @@ fn over_size() -> Vec<Named> {
 
 /// Sizes below 65,536, and ends of what is usable before them.
 fn sizes() -> Vec<Named> {
-    let small = |then: &[u8]| {
-        let mut bank = ending(200, then);
-        bank[16..HEADER].fill(0xFF);
-        [bank, vec![0; BANK]].concat()
-    };
-    let mut dead = ending(61, &[]);
-    dead[HEADER + 2] = 0x7C;
+    let small = |then: &[u8]| [unlimited(ending(200, then)), vec![0; BANK]].concat();
     let mut wrong = Record::live(b"rate", b"").bytes();
     put_number(&mut wrong, 0, 0x7F_55AB);
     let blank = [[0xFF; RECORD], [0; RECORD]].concat();
@@ -132,14 +127,14 @@ fn sizes() -> Vec<Named> {
         ("usable-110-moves", Run::new(small(&blank), one.clone())),
         ("usable-74-moves", Run::new(small(&wrong), one)),
         ("usable-74-stays", Run::new(small(&wrong), vec![commit()])),
-        ("dead-past-size-moves", Run::new(dead, vec![commit(), whole(1)])),
+        ("dead-past-size-moves", Run::new(dead_past_size(), vec![commit(), whole(1)])),
     ]
 }
 
 /// 65,536 bytes are written in place, a record more moves the bank.
 fn full_and_more() -> Vec<Call> {
     vec![
-        put(b"k", &[0x41; BANK - 74 - RECORD - 2], 0),
+        fill_and(0),
         remove(b"k", 0),
         commit(),
         put(b"k", b"", 0),
@@ -149,17 +144,6 @@ fn full_and_more() -> Vec<Call> {
     ]
 }
 
-/// The same bank, with limits that nothing reaches.
-fn unlimited(generation: u32) -> Vec<u8> {
-    let mut bank = held(generation);
-    bank[16..HEADER].fill(0xFF);
-    bank
-}
-
 fn commit() -> Call {
     Call::commit(BANK)
-}
-
-fn whole(n: usize) -> Call {
-    Call::whole(n * BANK)
 }

@@ -37,9 +37,10 @@ impl Edge {
         }
         let lookup = Call::new(What::Lookup, b"rate", 1);
         let insert = Call::new(What::Insert(b"x".to_vec()), b"rate", 1);
-        let (figures, commit) = (Call::figures(), Call::commit(BANK));
+        let commits = [Call::commit(BANK), Call::careful(BANK)];
         let whole = Call::whole(self.banks * BANK);
-        let mut run = Run::new(image, vec![lookup.clone(), insert, lookup, figures, commit, whole]);
+        let calls = [lookup.clone(), insert, lookup, Call::figures()];
+        let mut run = Run::new(image, calls.into_iter().chain(commits).chain([whole]).collect());
         run.spare = self.spare;
         run
     }

@@ -1,8 +1,8 @@
 //! The runs of the fixed list with figures: what records come to.
 
-use image::{Header, Record, BANK, COMMON_GUID, RECORD, SYSTEM_GUID};
+use image::{Header, Record, BANK, COMMON_GUID, SYSTEM_GUID};
 
-use super::pieces::{held, put, remove, Named};
+use super::pieces::{fill_and, held, put, remove, Named};
 use crate::store::book::LIVE;
 use crate::store::lent::call::Call;
 use crate::store::run::Run;
@@ -59,6 +59,5 @@ fn edits() -> Vec<Call> {
 
 /// A full bank, and a record more: the dead ones stay behind.
 fn moved() -> Vec<Call> {
-    let full = put(b"k", &[0x41; BANK - 74 - RECORD - 2], 0);
-    vec![full, remove(b"k", 0), put(b"k", b"", 0), Call::commit(BANK)]
+    vec![fill_and(0), remove(b"k", 0), put(b"k", b"", 0), Call::commit(BANK)]
 }

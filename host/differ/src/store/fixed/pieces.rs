@@ -1,6 +1,6 @@
 //! The banks and calls that fixed runs are made of.
 
-use image::{put_number, Header, Record};
+use image::{put_number, Header, Record, BANK, HEADER, RECORD};
 
 use crate::store::book::PART;
 use crate::store::lent::call::{Call, What};
@@ -25,6 +25,24 @@ pub fn ending(size: usize, then: &[u8]) -> Vec<u8> {
     bank
 }
 
+/// One of size 61 whose record passes it and is dead.
+pub fn dead_past_size() -> Vec<u8> {
+    let mut bank = ending(61, &[]);
+    bank[HEADER + 2] = 0x7C;
+    bank
+}
+
+/// The same bank, with limits that nothing reaches.
+pub fn unlimited(mut bank: Vec<u8>) -> Vec<u8> {
+    bank[16..HEADER].fill(0xFF);
+    bank
+}
+
+/// A value under `k` that leaves no byte of the bank beside `rate`, and so many bytes more.
+pub fn fill_and(more: usize) -> Call {
+    put(b"k", &vec![0x41; BANK - 74 - RECORD - 2 + more], 0)
+}
+
 pub fn put(key: &[u8], value: &[u8], typ: u32) -> Call {
     Call::new(What::Insert(value.to_vec()), key, typ)
 }
@@ -39,4 +57,8 @@ pub fn get(key: &[u8], typ: u32) -> Call {
 
 pub fn value(key: &[u8], typ: u32) -> Call {
     Call::new(What::Value(ROOM), key, typ)
+}
+
+pub fn whole(n: usize) -> Call {
+    Call::whole(n * BANK)
 }

@@ -6,7 +6,7 @@ use std::fmt::Write;
 use image::BANK;
 
 use super::pieces::Named;
-use crate::store::lent::call::{Answer, Call, What};
+use crate::store::lent::call::{Answer, Call, Way, What};
 use crate::store::run::domain::within;
 use crate::store::run::flash::erase;
 use crate::store::run::Run;
@@ -18,7 +18,8 @@ const HEAD: &str = "\
 # random number in it; `make test` makes it again and compares. Only calls that the Rust answers
 # are in it: it has no work area, no state and no refusals but those of an image and of a commit
 # (9, 10, 12). State and work area are those that its records amount to (header, records as
-# written, 0xFF behind them), the tally is the count of its erase requests.
+# written, 0xFF behind them), the tally is the count of its erase requests. A careful commit is
+# asked of a copy of its store where it refuses with 12, since it has moved by then.
 #
 # A line is a letter and fields, one space between. Numbers are decimal; bytes and checksums
 # (CRC-32, eight digits) are hexadecimal, `-` for no bytes. A line with # is for the reader.
@@ -34,6 +35,8 @@ const HEAD: &str = "\
 #                      and live common ones in bytes, and how many there are, dead ones too
 #   C NUMBER ERASE AT OFFSET LENGTH CRC commit: ERASE is 1 where the bank at AT is to be erased,
 #                      else both are 0; the checksum is of the bytes to write
+#   K NUMBER ERASE AT OFFSET LENGTH CRC careful commit, as above; one that is refused asks for
+#                      nothing and changes nothing
 #   A NUMBER LENGTH CRC                 the whole image, and the checksum of its bytes
 #   S N ACTIVE TALLY   the state after an opening, an edit or a commit, and for each bank KIND
 #                      (0 Empty, 1 Invalid, 2 Valid), TOTAL, USABLE
@@ -110,9 +113,10 @@ fn line(call: &Call, answer: &Answer) -> Result<String, String> {
         (_, Answer::Figures(number, [system, common, count])) => {
             format!("F {number} {system} {common} {count}\n")
         }
-        (_, Answer::Commit(number, [asked, at, offset, length], out)) => {
+        (What::Commit(way, _), Answer::Commit(number, [asked, at, offset, length], out)) => {
+            let letter = if *way == Way::Careful { "K" } else { "C" };
             let crc = crc32fast::hash(&out[..*length as usize]);
-            format!("C {number} {asked} {at} {offset} {length} {crc:08X}\n")
+            format!("{letter} {number} {asked} {at} {offset} {length} {crc:08X}\n")
         }
         (_, Answer::Whole(number, length, out)) => {
             let crc = crc32fast::hash(&out[..*length as usize]);

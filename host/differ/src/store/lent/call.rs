@@ -9,6 +9,8 @@ pub const ROOM: u8 = 0xA5;
 /// What a commit asks: whether to erase and where, where to write and how many bytes.
 pub type Asked = [u64; 4];
 pub const NO_REQUEST: Asked = [0; 4];
+/// What careful commits are called.
+pub const CAREFUL: &str = "careful commits";
 
 /// A call on an opened store.
 #[derive(Clone, Debug, PartialEq)]
@@ -30,9 +32,18 @@ pub enum What {
     Value(usize),
     Figures,
     /// With the room for the output.
-    Commit(usize),
+    Commit(Way, usize),
     /// The same.
     Whole(usize),
+}
+
+/// Which commit it is.
+#[derive(Clone, Copy, Debug, PartialEq)]
+pub enum Way {
+    /// As 01 says: refused with 12, it has moved the bank.
+    Old,
+    /// As N4 says: refused with 12 before it moves.
+    Careful,
 }
 
 impl What {
@@ -44,7 +55,8 @@ impl What {
             What::Lookup => "lookups",
             What::Value(_) => "values",
             What::Figures => "figures",
-            What::Commit(_) => "commits",
+            What::Commit(Way::Old, _) => "commits",
+            What::Commit(Way::Careful, _) => CAREFUL,
             What::Whole(_) => "whole images",
         }
     }
@@ -78,7 +90,11 @@ impl Call {
     }
 
     pub fn commit(room: usize) -> Self {
-        Call::new(What::Commit(room), b"", 0)
+        Call::new(What::Commit(Way::Old, room), b"", 0)
+    }
+
+    pub fn careful(room: usize) -> Self {
+        Call::new(What::Commit(Way::Careful, room), b"", 0)
     }
 
     pub fn whole(room: usize) -> Self {
@@ -92,8 +108,16 @@ impl Call {
             What::Lookup => Answer::Lookup(number, [0; 3]),
             What::Value(room) => Answer::Value(0, vec![ROOM; room]),
             What::Figures => Answer::Figures(number, [0; 3]),
-            What::Commit(room) => Answer::Commit(number, NO_REQUEST, vec![ROOM; room]),
+            What::Commit(_, room) => Answer::Commit(number, NO_REQUEST, vec![ROOM; room]),
             What::Whole(room) => Answer::Whole(number, 0, vec![ROOM; room]),
+        }
+    }
+
+    /// State or work area may be new after this answer.
+    pub fn changes(&self, answer: &Answer) -> bool {
+        match (&self.what, answer) {
+            (What::Commit(Way::Careful, _), Answer::Commit(number, ..)) => *number == 0,
+            _ => *answer == Answer::Number(0) || answer.requests().is_some(),
         }
     }
 
@@ -107,17 +131,12 @@ impl Call {
 }
 
 impl Answer {
-    /// Of an accepted commit or one that is refused with 12, which has moved the bank too.
+    /// Of an accepted commit or one that is refused with 12; an old one has moved the bank then.
     pub fn requests(&self) -> Option<Asked> {
         match self {
             Answer::Commit(0 | 12, requests, _) => Some(*requests),
             _ => None,
         }
-    }
-
-    /// State or work area may be new after it.
-    pub fn changes(&self) -> bool {
-        *self == Answer::Number(0) || self.requests().is_some()
     }
 
     /// The bytes to be written, of an accepted commit.
@@ -168,7 +187,10 @@ pub fn parting(said: &Answer, has: &Answer) -> String {
 impl Display for Call {
     fn fmt(&self, f: &mut Formatter) -> fmt::Result {
         match &self.what {
-            What::Commit(room) => return write!(f, "commit with room for {room}"),
+            What::Commit(way, room) => {
+                let careful = if *way == Way::Careful { "careful " } else { "" };
+                return write!(f, "{careful}commit with room for {room}");
+            }
             What::Whole(room) => return write!(f, "whole image with room for {room}"),
             What::Figures => return write!(f, "figures"),
             What::Insert(value) => write!(f, "insert of {}", hex(value))?,
@@ -232,7 +254,16 @@ mod tests {
         assert!(text.contains("from 69999 on, 01: a5, port: 07"), "{text}");
         let refused = commit.refused(5);
         assert_eq!((refused.written(), refused.requests()), (None, None));
-        assert!(!refused.changes() && said.changes());
+        assert!(!commit.changes(&refused) && commit.changes(&said));
+    }
+
+    #[test]
+    fn only_an_old_12_changes_something() {
+        let [old, careful] = [Call::commit(0), Call::careful(0)];
+        let over = old.refused(12);
+        assert_eq!(over, careful.refused(12));
+        assert!(old.changes(&over) && !careful.changes(&over));
+        assert!(careful.changes(&Answer::Commit(0, NO_REQUEST, vec![])));
     }
 
     #[test]
@@ -241,5 +272,7 @@ mod tests {
         let text = call.to_string();
         assert!(text.starts_with("insert of 0101"), "{text}");
         assert!(text.ends_with(".. of 40 bytes, key -, type 9"), "{text}");
+        let commits = [Call::commit(7), Call::careful(7)].map(|call| call.to_string());
+        assert_eq!(commits, ["commit with room for 7", "careful commit with room for 7"]);
     }
 }

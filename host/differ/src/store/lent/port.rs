@@ -1,6 +1,6 @@
 //! The port's calls on lent buffers, and what they are to leave alone.
 
-use super::call::{Answer, Call, What, ROOM};
+use super::call::{Answer, Call, Way, What, ROOM};
 use crate::partition::cause::{compare_all, Causes, PortCause};
 
 /// Bytes before and after a buffer that nobody lent.
@@ -138,7 +138,7 @@ impl Lent {
                 let (number, figures) = with_numbers(figures)?;
                 Answer::Figures(number, figures)
             }
-            What::Value(room) | What::Commit(room) | What::Whole(room) => {
+            What::Value(room) | What::Commit(_, room) | What::Whole(room) => {
                 self.with_room(call, &key, *room)?
             }
         };
@@ -151,9 +151,12 @@ impl Lent {
         let (state, work) = (self.state.bytes_mut(), self.work.bytes_mut());
         let out = lent.bytes_mut();
         let mut answer = match call.what {
-            What::Commit(_) => {
-                let commit = |asked: &mut _| feqyondil::lent::commit(state, work, out, asked);
-                let (number, asked) = with_numbers(commit)?;
+            What::Commit(way, _) => {
+                let commit = match way {
+                    Way::Old => feqyondil::lent::commit,
+                    Way::Careful => feqyondil::lent::careful_commit,
+                };
+                let (number, asked) = with_numbers(|asked| commit(state, work, out, asked))?;
                 Answer::Commit(number, asked, Vec::new())
             }
             What::Whole(_) => {

@@ -7,16 +7,19 @@ use std::ops::AddAssign;
 use super::wear::Pair;
 use crate::partition::cause::Causes;
 use crate::store::book::Book;
-use crate::store::lent::call::{Answer, Call};
+use crate::store::lent::call::{Answer, Call, CAREFUL};
 
 pub const BANKS: &str = "banks";
 /// Lookups and values that found something.
 pub const FOUND: &str = "found";
-/// Commits that moved the bank, those refused with 12 too.
+/// Commits that moved the bank, old ones refused with 12 too.
 pub const MOVES: &str = "moves";
+/// Commits that were accepted right after a careful one that was refused with 12.
+pub const AFTER_12: &str = "accepted after 12";
 pub const ERASES: &str = "erase requests";
-/// Of erase requests for one bank, that the bound asks something of.
+/// Of erase requests for one bank, that 01's bound asks something of, and N4's.
 pub const PAIRS: &str = "pairs of requests";
+pub const ACCEPTED_PAIRS: &str = "pairs by accepted commits";
 /// Of the flash by the port.
 pub const REOPENED: &str = "reopenings";
 /// What the Rust answered too.
@@ -29,6 +32,8 @@ pub struct Counts {
     /// By their number; a value tells none, and is not among the calls here.
     pub openings: By<u32>,
     pub numbers: By<u32>,
+    /// The careful commits among them.
+    pub careful: By<u32>,
     /// Calls by their kind, and what is named above.
     pub others: By<&'static str>,
     /// Of the banks of every opening and reopening.
@@ -93,6 +98,9 @@ impl Counts {
             }
         };
         self.numbers.add(number, 1);
+        if call.what.name() == CAREFUL {
+            self.careful.add(number, 1);
+        }
     }
 
     pub fn runs(&self) -> u64 {
@@ -104,6 +112,7 @@ impl AddAssign for Counts {
     fn add_assign(&mut self, more: Counts) {
         self.openings.add_all(more.openings);
         self.numbers.add_all(more.numbers);
+        self.careful.add_all(more.careful);
         self.others.add_all(more.others);
         self.causes += more.causes;
         self.fewest = self.fewest.into_iter().chain(more.fewest).min();
@@ -118,8 +127,12 @@ impl Display for Counts {
         };
         write!(f, "{} openings{}; ", self.runs(), refused(&self.openings))?;
         write!(f, "{} calls with a number{}", self.numbers.all(), refused(&self.numbers))?;
-        let mut others = self.others.0.iter().filter(|(_, count)| **count > 0);
-        others.try_for_each(|(name, count)| write!(f, "; {count} {name}"))?;
+        for (name, count) in self.others.0.iter().filter(|(_, count)| **count > 0) {
+            write!(f, "; {count} {name}")?;
+            if *name == CAREFUL {
+                write!(f, "{}", refused(&self.careful))?;
+            }
+        }
         let causes = self.causes.numbers().into_iter().filter(|(_, count)| *count > 0);
         let causes: Vec<String> = causes.map(|(name, count)| format!("{count} {name}")).collect();
         match causes.is_empty() {
@@ -140,11 +153,12 @@ mod tests {
         let lookup = Call::new(What::Lookup, b"", 0);
         counts.called(&lookup, &lookup.refused(6), false);
         counts.called(&lookup, &lookup.found(1, b"a"), true);
+        let careful = Call::careful(0);
+        counts.called(&careful, &careful.refused(5), true);
         let mut both = counts.clone();
         both += counts;
-        let told =
-            "2 openings, 2 refused with 4; 4 calls with a number, 2 refused with 6; 2 found; \
-                    4 lookups";
+        let told = "2 openings, 2 refused with 4; 6 calls with a number, 2 refused with 5, \
+                    2 refused with 6; 2 careful commits, 2 refused with 5; 2 found; 4 lookups";
         assert_eq!(both.to_string(), told);
     }
 }

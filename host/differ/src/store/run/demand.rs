@@ -1,12 +1,15 @@
-//! What demand 3 says of the flash and of its wear, looked at as a run goes.
+//! What demand 3 says of the flash and of its wear, looked at as a run goes. By 01 no old commit is
+//! refused with 12, and L is over all commits; by N4 of the change requests (02) every commit is
+//! careful, and L is over the accepted ones. Both bounds are looked at in every run of 01's, since
+//! N4's is proved there too.
 
 use image::RECORD;
 
-use super::counts::{Counts, PAIRS, REOPENED, RUST_REOPENED};
+use super::counts::{Counts, ACCEPTED_PAIRS, AFTER_12, PAIRS, REOPENED, RUST_REOPENED};
 use super::flash::{erase, reopen, reopen_rust, Flash};
-use super::wear::Wear;
-use crate::store::book::Book;
-use crate::store::lent::call::{Answer, Call, What};
+use super::wear::{Commit, Over, Wear};
+use crate::store::book::{Bank, Book};
+use crate::store::lent::call::{Answer, Call, Way, What};
 use crate::store::lent::state::State;
 use crate::store::lent::Lent;
 
@@ -14,9 +17,11 @@ pub struct Watch {
     /// As the port's answers make it, and as the Rust's do.
     port: Flash,
     rust: Flash,
-    wear: Wear,
+    wears: [Wear; 2],
     requests: u32,
-    /// A commit was refused with 12: the demand speaks of no such run.
+    /// The last commit was a careful one that was refused with 12.
+    over: bool,
+    /// An old commit was refused with 12: the demand speaks of no such run.
     ended: bool,
 }
 
@@ -25,8 +30,9 @@ impl Watch {
         Watch {
             port: Flash::new(image),
             rust: Flash::new(image),
-            wear: Wear::new(n),
+            wears: [Over::All, Over::Accepted].map(|over| Wear::new(n, over)),
             requests: 0,
+            over: false,
             ended: false,
         }
     }
@@ -41,12 +47,18 @@ impl Watch {
         counts: &mut Counts,
     ) -> Result<(), String> {
         match &call.what {
-            What::Insert(value) if port.changes() => {
+            What::Insert(value) if call.changes(port) => {
                 let size = RECORD + call.key.len() + 1 + value.len();
-                self.wear.inserted(size);
+                self.wears.iter_mut().for_each(|wear| wear.inserted(size));
                 Ok(())
             }
-            What::Commit(_) => self.committed(port, rust, after, counts),
+            What::Commit(way, _) => {
+                let over = matches!(port, Answer::Commit(12, ..));
+                self.ended |= over && *way == Way::Old;
+                counts.add(AFTER_12, (self.over && port.written().is_some()).into());
+                self.over = over && *way == Way::Careful;
+                self.committed(port, rust, after, counts)
+            }
             _ => Ok(()),
         }
     }
@@ -59,15 +71,10 @@ impl Watch {
         counts: &mut Counts,
     ) -> Result<(), String> {
         self.counted(port, lent)?;
-        self.ended |= matches!(port, Answer::Commit(12, ..));
         let Some(bank) = book.active_bank().filter(|_| !self.ended) else {
             return Ok(());
         };
-        let (live, size) = (bank.live(), bank.header.size as usize);
-        if let Some(pair) = self.wear.committed(live, size, erase(port))? {
-            counts.add(PAIRS, 1);
-            *counts += Counts { fewest: Some(pair), ..Counts::default() };
-        }
+        self.worn(port, bank, counts)?;
         self.port.carry_out(port)?;
         if let Some(rust) = rust {
             self.rust.carry_out(rust)?;
@@ -80,6 +87,23 @@ impl Watch {
         if rust.is_some() {
             let asked = reopen_rust(&self.rust, book, &again)?;
             counts.add(RUST_REOPENED, asked.into());
+        }
+        Ok(())
+    }
+
+    /// Both bounds after a commit, with the bank that is active then.
+    fn worn(&mut self, port: &Answer, bank: &Bank, counts: &mut Counts) -> Result<(), String> {
+        let commit = Commit {
+            accepted: port.written().is_some(),
+            live: bank.live(),
+            size: bank.header.size as usize,
+            erase: erase(port),
+        };
+        for (wear, name) in self.wears.iter_mut().zip([PAIRS, ACCEPTED_PAIRS]) {
+            if let Some(pair) = wear.committed(commit)? {
+                counts.add(name, 1);
+                *counts += Counts { fewest: Some(pair), ..Counts::default() };
+            }
         }
         Ok(())
     }

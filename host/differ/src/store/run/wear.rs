@@ -1,5 +1,5 @@
-//! The wear of the flash, by 01, 'A run, its book and the flash': what must have been inserted
-//! between two erase requests for one bank.
+//! The wear of the flash, by 01, 'A run, its book and the flash', and by N4 of the change requests
+//! (02): what must have been inserted between two erase requests for one bank.
 
 use std::fmt::{self, Display, Formatter};
 
@@ -41,14 +41,35 @@ struct Since {
     most: u64,
 }
 
+/// A commit, as the bound looks at it.
+#[derive(Clone, Copy)]
+pub struct Commit {
+    pub accepted: bool,
+    /// What header and live records of the active bank come to, and its size.
+    pub live: usize,
+    pub size: usize,
+    /// The offset of the bank to erase.
+    pub erase: Option<usize>,
+}
+
+/// Which commits L is over.
+#[derive(Clone, Copy, Debug, PartialEq)]
+pub enum Over {
+    /// 01's: refused ones too.
+    All,
+    /// N4's.
+    Accepted,
+}
+
 pub struct Wear {
+    over: Over,
     banks: Vec<Option<Since>>,
 }
 
 impl Wear {
-    pub fn new(n: usize) -> Self {
+    pub fn new(n: usize, over: Over) -> Self {
         let banks = vec![None; n];
-        Wear { banks }
+        Wear { over, banks }
     }
 
     /// After an accepted insert of a record of this size.
@@ -57,24 +78,18 @@ impl Wear {
         banks.for_each(|since| since.inserted += size as u64);
     }
 
-    /// After a commit, refused or not: what header and live records of the active bank come to,
-    /// its size, and the offset of the bank to erase. Answers the pair of which the bound asked
-    /// something.
+    /// After a commit, refused or not. Answers the pair of which the bound asked something.
     ///
     /// Only pairs without another request for the bank between them are looked at: the others
     /// ask for less and have more.
-    pub fn committed(
-        &mut self,
-        live: usize,
-        size: usize,
-        erase: Option<usize>,
-    ) -> Result<Option<Pair>, String> {
-        let (live, size) = (live as u64, size as u64);
-        let bank = erase.map(|at| at / BANK);
+    pub fn committed(&mut self, commit: Commit) -> Result<Option<Pair>, String> {
+        let live = commit.live as u64;
+        let bank = commit.erase.map(|at| at / BANK);
         let before = bank.and_then(|i| self.banks[i]);
-        let pair = before.map_or(Ok(None), |since| self.bound(since, size))?;
-        for since in self.banks.iter_mut().flatten() {
-            since.most = since.most.max(live);
+        let pair = before.map_or(Ok(None), |since| self.bound(since, commit.size as u64))?;
+        if commit.accepted || self.over == Over::All {
+            let banks = self.banks.iter_mut().flatten();
+            banks.for_each(|since| since.most = since.most.max(live));
         }
         if let Some(i) = bank {
             self.banks[i] = Some(Since { inserted: 0, most: live });
@@ -99,32 +114,54 @@ impl Wear {
 mod tests {
     use super::*;
 
+    fn accepted(live: usize, size: usize, erase: Option<usize>) -> Commit {
+        Commit { accepted: true, live, size, erase }
+    }
+
     #[test]
     fn the_bound_is_01s_case() {
         // n 2, S 65,536, L 8,192: at least 114,690 bytes.
-        let after = |inserted: usize| {
-            let mut wear = Wear::new(2);
-            wear.committed(8_192, BANK, Some(0)).unwrap();
+        let after = |over, inserted: usize| {
+            let mut wear = Wear::new(2, over);
+            wear.committed(accepted(8_192, BANK, Some(0))).unwrap();
             wear.inserted(inserted - 1);
-            wear.committed(8_000, BANK, Some(BANK)).unwrap();
+            wear.committed(accepted(8_000, BANK, Some(BANK))).unwrap();
             wear.inserted(1);
-            wear.committed(9_000, BANK, Some(0))
+            wear.committed(accepted(9_000, BANK, Some(0)))
         };
-        assert_eq!(after(114_690).map(|pair| pair.is_some()), Ok(true));
-        let fault = after(114_689).unwrap_err();
-        assert!(fault.contains("L 8192: 114689 bytes inserted"), "{fault}");
-        assert!(fault.ends_with("of at least 114690"), "{fault}");
+        for over in [Over::All, Over::Accepted] {
+            assert_eq!(after(over, 114_690).map(|pair| pair.is_some()), Ok(true));
+            let fault = after(over, 114_689).unwrap_err();
+            assert!(fault.contains("L 8192: 114689 bytes inserted"), "{fault}");
+            assert!(fault.ends_with("of at least 114690"), "{fault}");
+        }
+    }
+
+    /// Two erase requests of a bank of size 200, so many bytes inserted between them, and a commit
+    /// with so many live ones that is refused.
+    fn with_refused(over: Over, inserted: usize, live: usize) -> Result<Option<Pair>, String> {
+        let mut wear = Wear::new(1, over);
+        wear.committed(accepted(100, 200, Some(0))).unwrap();
+        wear.committed(Commit { accepted: false, ..accepted(live, 200, None) }).unwrap();
+        wear.inserted(inserted);
+        wear.committed(accepted(0, 200, Some(0)))
     }
 
     #[test]
     fn a_refused_commit_counts_and_an_overfull_bank_asks_nothing() {
-        let after = |live| {
-            let mut wear = Wear::new(1);
-            wear.committed(100, 200, Some(0)).unwrap();
-            wear.committed(live, 200, None).unwrap();
-            wear.committed(0, 200, Some(0))
-        };
-        assert!(after(200).is_err());
-        assert_eq!(after(201), Ok(None));
+        let after = |inserted, live| with_refused(Over::All, inserted, live);
+        assert!(after(0, 200).is_err());
+        assert_eq!(after(1, 200).map(|pair| pair.is_some()), Ok(true));
+        assert_eq!(after(0, 201), Ok(None));
+    }
+
+    #[test]
+    fn by_n4_a_refused_commit_does_not_count() {
+        for live in [200, 201] {
+            let after = |inserted| with_refused(Over::Accepted, inserted, live);
+            let pair = Pair { inserted: 101, banks: 1, size: 200, most: 100 };
+            assert_eq!(after(101), Ok(Some(pair)));
+            assert!(after(100).is_err());
+        }
     }
 }

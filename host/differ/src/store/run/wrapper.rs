@@ -4,7 +4,7 @@ use feqyondil::{Kind, NotCommitted, Refusal, Store, VarType};
 
 use super::input::Run;
 use crate::store::book::Book;
-use crate::store::lent::call::{Answer, Call, What, ROOM};
+use crate::store::lent::call::{Answer, Call, Way, What, ROOM};
 use crate::store::lent::same::{same_state, same_work};
 use crate::store::lent::state::{Entry, State, EMPTY, ENTRIES, INVALID, VALID};
 
@@ -89,13 +89,17 @@ fn ask(store: &mut Store, call: &Call) -> Answer {
             }
             Err(refusal) => call.refused(refusal.number()),
         },
-        What::Commit(room) => committed(store, vec![ROOM; *room]),
+        What::Commit(way, room) => committed(store, *way, vec![ROOM; *room]),
         What::Whole(room) => whole(store, vec![ROOM; *room]),
     }
 }
 
-fn committed(store: &mut Store, mut out: Vec<u8>) -> Answer {
-    let (number, erase, offset, bytes) = match store.commit(&mut out) {
+fn committed(store: &mut Store, way: Way, mut out: Vec<u8>) -> Answer {
+    let done = match way {
+        Way::Old => store.commit(&mut out),
+        Way::Careful => store.careful_commit(&mut out).map_err(NotCommitted::Refused),
+    };
+    let (number, erase, offset, bytes) = match done {
         Ok(done) => (0, done.erase, done.offset, done.bytes.to_vec()),
         Err(refused) => {
             let erase = match refused {
