@@ -24,9 +24,9 @@ use Rattle.nvram.specs.Contract.{onBook, call, Does, Begun, begun}
 use Rattle.nvram.proofs.KeepLaws.{Kept, keeps}
 use Rattle.run.specs.Run as run
 use Rattle.run.specs.Wear.{allCommits, acceptedCommits}
+use Rattle.run.specs.Demand.{Claim, Careful}
 use Rattle.run.proofs.EachLaws.{each-none, each-more}
 use Rattle.run.proofs.Start.{starts}
-use Rattle.run.specs.Demand.{Claim, Careful}
 use Rattle.run.proofs.Demand.{reading-01, reading-N4}
 use Rattle.state_bytes.specs.State.{stateSize, stored, readState, FineEntries, FineState}
 use Rattle.state_bytes.proofs.StateLaws.{stored-back}
