@@ -1,8 +1,10 @@
 -- The contracts of the exported calls, from those of the calls: 6 where the bytes hold no state (`calls-6`), else by the state that was loaded
--- (`calls`, `keeps`, `exported-remove`); and of the exported opening (`opens-6`, `opens`).
+-- (`calls`, `keeps`, `exported-remove`); and of the exported opening (`opens-6`, `opens`). To be read: a careful commit that is refused
+-- (`careful-refused`).
 use Prim.Native.Nat.{ℕ, _≤_, _<_}
 use mathlib.Core.Path.{_≡_, refl, sym, ap, _∙_, subst}
-use mathlib.Core.List.{List, []}
+use mathlib.Core.List.{List, [], _∷_}
+use mathlib.Core.Logic.{_≢_}
 use mathlib.Core.Bool.{Bool, true, false, true≢false}
 use mathlib.Core.Option.{Option, none, some}
 use lib.ListN.{length}
@@ -12,7 +14,8 @@ use Rattle.bank.specs.declared.variable.VarType.{VarType}
 use Rattle.records.specs.Checked.{isSome}
 use Rattle.book.specs.Edit.{remove}
 use Rattle.book.specs.Opening.{opening}
-use Rattle.book.specs.Call.{Call, edit, Answer, edited, refusal}
+use Rattle.book.specs.Commit.{careful}
+use Rattle.book.specs.Call.{Call, edit, commit, Answer, edited, committed, number, refusal}
 use Rattle.nvram.specs.declared.state.Kind.{Kind}
 use Rattle.nvram.specs.declared.state.Kind.the-variants.{Empty, Invalid, Valid}
 use Rattle.nvram.specs.declared.state.Nvram.{Nvram}
@@ -20,6 +23,7 @@ use Rattle.nvram.specs.Layout.{view}
 use Rattle.nvram.specs.Ready.{activeEntry}
 use Rattle.nvram.specs.Contract.{call, Does, begun}
 use Rattle.nvram.proofs.CallLaws.{does-6, empty-valid, invalid-valid}
+use Rattle.nvram.proofs.KeepLaws.{careful-keeps}
 use Rattle.nvram.proofs.ReadyLaws.{stand}
 use Rattle.nvram.proofs.ActiveLaws.{Sound, does-7}
 use Rattle.variables.proofs.EditLaws.{removes}
@@ -87,6 +91,32 @@ pub exported-remove : (key : List ℕ) (typ : VarType) (bs w : List ℕ) (s : Nv
 exported-remove key typ bs w s e k kw r s′ w′ d =
     keeps (edit (remove key typ)) bs w [] r [] [] s e (edited r) [] (refl, refl, refl) w′ k
     (record { answer = d .answer; out = d .out; state = remove-stays key typ s w kw (read-state-fine bs s k e .banks-long); work = d .work })
+
+-- what the header says of a careful commit that is refused (02, N4): nothing is asked for, and every byte stays
+pub careful-refused : (room : ℕ) (bs w o : List ℕ) (r : ℕ) (q bs′ w′ o′ : List ℕ) → Bytes bs → Bytes w
+    → Calls (commit careful room) bs w o r q bs′ w′ o′
+    → r ≢ 0
+    → (q ≡ 0 ∷ 0 ∷ 0 ∷ 0 ∷ []) × (bs′ ≡ bs) × (w′ ≡ w) × (o′ ≡ o)
+unfolding exported onState
+careful-refused room bs w o r q bs′ w′ o′ k kw d h = go (readState bs) refl
+  where
+    c : Call
+    c = commit careful room
+
+    left : (n : ℕ) (y : BytesAfter) → exported c bs w ≡ y → y .answer ≡ committed n none 0 0 → y .state ≡ bs → y .work ≡ w
+        → (q ≡ 0 ∷ 0 ∷ 0 ∷ 0 ∷ []) × (bs′ ≡ bs) × (w′ ≡ w) × (o′ ≡ o)
+    left n y e a s v =
+        let t : Tells c (committed n none 0 0) (exported c bs w .out) o r q o′ =
+        subst (λ (x : Answer). Tells c x (exported c bs w .out) o r q o′) (ap (λ (z : BytesAfter). z .answer) e ∙ a) (d .tells) in
+        (t .fields, d .state ∙ ap (λ (z : BytesAfter). z .state) e ∙ s, d .work ∙ ap (λ (z : BytesAfter). z .work) e ∙ v, t .rest)
+
+    go : (m : Option Nvram) → readState bs ≡ m → (q ≡ 0 ∷ 0 ∷ 0 ∷ 0 ∷ []) × (bs′ ≡ bs) × (w′ ≡ w) × (o′ ≡ o)
+    go none e = left 6 (onState none c bs w) (ap (λ (z : Option Nvram). onState z c bs w) e) refl refl refl
+    go (some s) e =
+        let p : exported c bs w ≡ onState (some s) c bs w = ap (λ (z : Option Nvram). onState z c bs w) e in
+        let n : number (call c s w .answer) ≢ 0 = λ z. h (d .tells .returned ∙ ap (λ (y : BytesAfter). number (y .answer)) p ∙ z) in
+        let f = careful-keeps room s w kw (read-state-fine bs s k e .banks-long) n in
+        left _ (onState (some s) c bs w) p (sym (f .answer)) (ap (λ (z : Nvram). stored z bs) (sym (f .state)) ∙ bytes-back bs s k e) (sym (f .work))
 
 -- an opening
 

@@ -1,6 +1,6 @@
 -- The wear bound (01, 'A run, its book and the flash'; 02, N4), with L anything that the live records at accepted commits stay within: one that
--- is refused leaves the book as it was. From one move to the next to
--- the same bank there are n moves or more (`whole-turns`), each drops the total by D or more, and inserts have brought that (`MovesBetween`, `two-moves`).
+-- is refused leaves the book as it was. From one move to the next to the same bank there are n moves or more (`whole-turns`), each drops the total by
+-- D or more, and inserts have brought that (`MovesBetween`, `two-moves`).
 use Prim.Native.Nat.{ℕ, zero, suc, _+_, _*_, _/_, _≤_, _<_}
 use native.Mathlib.Omega.{arith}
 use native.Mathlib.Nat.{div-add-mod', mul-le-mul-right, le-trans}
