@@ -1,5 +1,5 @@
--- To be read: nothing cites it. The careful commit beside the old one (02, N4), on any book: what it accepts, the old one does too, and as it
--- does (`accepted-same`); but for 12 the two are one (`same`); and where the old one is refused by 12, so is it, and changes nothing (`same-12`).
+-- To be read: nothing cites it. The careful commit beside the old one (02, N4), on any book: but for 12 the two are one (`same`); where the old one
+-- is refused by 12, so is it, and changes nothing (`same-12`); so what it accepts, it does as the old one (`accepted-same`).
 use Prim.Native.Nat.{ℕ}
 use mathlib.Core.Path.{_≡_, refl, ap}
 use mathlib.Core.Logic.{_≢_}
@@ -48,14 +48,6 @@ module _ (b : Book) where
         go true e = rw e (refuses 5)
         go false e = rw e (beside-slot (activeSlot b))
 
-    pub accepted-same : number (step b (commit careful room) .answer) ≡ 0 → step b (commit careful room) ≡ step b (commit old room)
-    accepted-same h = go _ _ beside h
-      where
-        go : (o c : Outcome) → Beside b o c → number (c .answer) ≡ 0 → c ≡ o
-        go o c (refuses n) h = refl
-        go o c (accepts x e) h = refl
-        go o c (exceeds k e) h = absurd (omega arith)
-
     pub same : number (step b (commit old room) .answer) ≢ 12 → step b (commit careful room) ≡ step b (commit old room)
     same h = go _ _ beside h
       where
@@ -71,3 +63,6 @@ module _ (b : Book) where
         go o c (refuses n) h = ap (λ (k : ℕ). stay b (committed k none 0 0)) h
         go o c (accepts x e) h = absurd (omega arith)
         go o c (exceeds k e) h = refl
+
+    pub accepted-same : number (step b (commit careful room) .answer) ≡ 0 → step b (commit careful room) ≡ step b (commit old room)
+    accepted-same h = same (λ q. omega (arith, ap (λ (o : Outcome). number (o .answer)) (same-12 q), h))

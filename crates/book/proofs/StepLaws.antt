@@ -1,9 +1,10 @@
 -- A step keeps a book well-formed (`step-fine`), and what it lays out is the book after it where the state follows the book (`settled`).
--- Both by cases of `did`.
+-- Both by cases of `did`. It follows after every call that is no old commit (`not-old`).
 use Prim.Native.Nat.{ℕ, zero, suc, _+_, _*_, _/_, _≤_, _<_}
-use mathlib.Core.Path.{_≡_, refl, _∙_, subst}
+use mathlib.Core.Path.{_≡_, refl, sym, _∙_, subst}
 use mathlib.Core.List.{List}
 use mathlib.Core.Logic.{_≢_}
+use mathlib.Core.Bool.{false, true≢false}
 use native.Mathlib.Omega.{arith}
 use native.Mathlib.Nat.{div-add-mod', mod-lt}
 use lib.ListN.{getD, length-set}
@@ -16,7 +17,7 @@ use Rattle.records.proofs.RecordLists.{fine-select, sizes-select}
 use Rattle.book.specs.Edit.{editedBy, grows}
 use Rattle.book.specs.Book.{partSize, FineSlot, Book, FineBook, activeSlot, withActive, withRecords}
 use Rattle.book.specs.Commit.{moved, nextBank, movedBook}
-use Rattle.book.specs.Call.{Call, ByteCall, number, Follows, Outcome, step}
+use Rattle.book.specs.Call.{Call, ByteCall, number, isOld, Follows, Outcome, step}
 use Rattle.book.proofs.EditedRecords.{sizes-edited, fine-edited}
 use Rattle.book.proofs.BookLaws.{part-size, fine-at, fine-set, fine-with}
 use Rattle.book.proofs.Did.{refuses, reads, edits, writes, moves, overflows, Did, did}
@@ -107,3 +108,6 @@ settled-did b c o h (overflows room d l) = absurd (h refl refl)
 
 pub settled : (b : Book) (c : Call) → Follows c (number (step b c .answer)) → step b c .laid ≡ step b c .after
 settled b c h = settled-did b c (step b c) h (did b c)
+
+pub not-old : (c : Call) (k : ℕ) → isOld c ≡ false → Follows c k
+not-old c k e q = absurd (true≢false (sym q ∙ e))

@@ -113,7 +113,7 @@ lookupBank b key typ k = stay b (looked 0 (foundIn key typ (b .active * partSize
 unfoldable pub fetchBank : Book → List ℕ → VarType → Bank → Outcome
 fetchBank b key typ k = stayWith b handed (valueIn key typ (k .records))
 
--- both sums and the number of records, dead ones too
+-- the sums, and the number of records, dead ones too
 unfoldable pub figuresBank : Book → Bank → Outcome
 figuresBank b k = stay b (summed 0 (figuresOf (k .records)))
 

@@ -50,6 +50,7 @@ Used s w f = ActiveHas s w (λ (k : Bank). f ≡ figuresOf (k .records))
 abbrev pub MoveDue : Way → Nvram → List ℕ → Type 0
 MoveDue way s w = ActiveHas s w (λ (k : Bank). judgeBank way k ≡ move)
 
+-- a commit of some way is
 abbrev pub SomeMoveDue : Nvram → List ℕ → Type 0
 SomeMoveDue s w = (way : Way) × MoveDue way s w
 

@@ -173,6 +173,7 @@ fn requests(answer: Applied) -> [u64; 4]
     }
 }
 
+// A commit on the state that the bytes hold.
 fn commit_as(
     state: &mut [u8],
     work: &mut [u8],

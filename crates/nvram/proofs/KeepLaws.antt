@@ -6,7 +6,7 @@ use mathlib.Core.Path.{_≡_, refl, sym, ap, _∙_, subst}
 use mathlib.Core.List.{List, []}
 use mathlib.Core.Logic.{_≢_}
 use mathlib.Core.Option.{Option, none, some}
-use mathlib.Core.Bool.{Bool, true, false, true≢false}
+use mathlib.Core.Bool.{Bool, true, false}
 use lib.ListN.{length}
 use Rattle.crc32.specs.Crc32.{Bytes}
 use Rattle.records.specs.Checked.{isSome}
@@ -14,7 +14,7 @@ use Rattle.book.specs.Book.{Book, FineBook}
 use Rattle.book.specs.Commit.{careful}
 use Rattle.book.specs.Call.{Call, commit, ByteCall, Answer, committed, number, step, refusal, stay, Follows}
 use Rattle.book.specs.Tally.{Tally, tallied}
-use Rattle.book.proofs.StepLaws.{step-fine}
+use Rattle.book.proofs.StepLaws.{step-fine, not-old}
 use Rattle.book.proofs.RefusalLaws.{refusal-again, refused}
 use Rattle.nvram.specs.declared.state.Nvram.{Nvram}
 use Rattle.nvram.specs.Layout.{layState, layWork, view}
@@ -68,4 +68,4 @@ refusal-keeps c s w y l h m = go (isSome (view s w)) refl
 -- of a careful commit
 pub careful-keeps : (room : ℕ) (s : Nvram) (w : List ℕ) → Bytes w → length (s .banks) ≡ 16 → number (call (commit careful room) s w .answer) ≢ 0
     → Does (commit careful room) s w (committed (number (call (commit careful room) s w .answer)) none 0 0) [] s w
-careful-keeps room s w y l h = refusal-keeps (commit careful room) s w y l h (λ o. absurd (true≢false (sym o)))
+careful-keeps room s w y l h = refusal-keeps (commit careful room) s w y l h (not-old (commit careful room) _ refl)

@@ -3,15 +3,16 @@
 use Prim.Native.Nat.{ℕ, _+_, _-_, _≤_, min}
 use mathlib.Core.Path.{_≡_, refl, sym, ap, _∙_, subst}
 use mathlib.Core.List.{List, _∷_, _++_}
-use mathlib.Core.Bool.{Bool, true, true≢false}
+use mathlib.Core.Bool.{Bool, true}
 use native.Mathlib.Omega.{arith}
 use native.Mathlib.Nat.{mul-le-mul-left, le-trans}
 use Rattle.book.specs.Book.{Book}
-use Rattle.book.specs.Call.{Call, number, Follows}
+use Rattle.book.specs.Call.{number, Follows}
+use Rattle.book.proofs.StepLaws.{not-old}
 use Rattle.book.proofs.RefusalLaws.{not-6}
 use Rattle.run.specs.Run.{openedBook, Page, pages}
 use Rattle.run.specs.Wear.{activeSize, allCommits, acceptedCommits, mostLive, requests}
-use Rattle.run.specs.Demand.{Answers, flashAfter, Demand3, Claim, Careful, Claim01, ClaimN4}
+use Rattle.run.specs.Demand.{Answers, flashAfter, Demand3, Claim, Claim01, ClaimN4}
 use Rattle.run.proofs.Along.{At, Along, Tallied, flashOf, endOf, current-at, opened-along, along-split, flash-end, requests-end, tally-at}
 use Rattle.run.proofs.Wear.{most-within, most-more, wear-within}
 use Rattle.run.proofs.Reopen.{reopens}
@@ -63,8 +64,5 @@ pub reading-01 : Claim01
 reading-01 image work s w es o r n =
     over-more image acceptedCommits allCommits (λ k e. refl) (pages (openedBook image) es) (demand-3 image work s w es o r n)
 
-careful-follows : (c : Call) (k : ℕ) → Careful c k → Follows c k
-careful-follows c k e q = absurd (true≢false (sym q ∙ e))
-
 pub reading-N4 : ClaimN4
-reading-N4 image work s w es o r n = demand-3 image work s w es o r (λ earlier p later h. careful-follows (p .event .call) _ (n earlier p later h))
+reading-N4 image work s w es o r n = demand-3 image work s w es o r (λ earlier p later h. not-old (p .event .call) _ (n earlier p later h))

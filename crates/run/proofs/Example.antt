@@ -3,8 +3,7 @@
 -- And the wear bound at the figures that 01 gives (`two-banks`).
 use Prim.Native.Nat.{ℕ, _+_, _-_, _*_, _/_, _≤_, _<_}
 use mathlib.Core.Path.{_≡_, refl, sym, ap, ap₂, _∙_, subst}
-use mathlib.Core.Logic.{_≢_}
-use mathlib.Core.Bool.{Bool, true, false, true≢false}
+use mathlib.Core.Bool.{Bool}
 use mathlib.Core.List.{List, [], _∷_, _++_}
 use mathlib.Core.Option.{none, some}
 use native.Mathlib.Omega.{arith}
@@ -34,12 +33,13 @@ use Rattle.book.specs.Book.{partSize, Book}
 use Rattle.book.specs.Commit.{Way, old, careful, judge, carefully, judgeAs, due, judgeBank, request}
 use Rattle.book.specs.Opening.{readSlots, activeFrom, anyValid, banksOf, bookOf, Opened, opened, opening}
 use Rattle.book.specs.Call.{Call, edit, commit, Answer, committed, number, erase, bySlot, editAs, editBank, moveIn, commitAs, commitBank, commitTo, step, Follows}
+use Rattle.book.proofs.StepLaws.{not-old}
 use Rattle.nvram.specs.declared.state.Nvram.{Nvram}
 use Rattle.nvram.specs.Contract.{begun}
 use Rattle.run.specs.Run.{Opens, Event, Run, openedBook, Page, pages}
 use Rattle.run.specs.Wear.{activeSize, allCommits, acceptedCommits, mostLive, insertedBytes, requested, requests}
 use Rattle.run.specs.Demand.{Demand3, Careful}
-use Rattle.run.proofs.RunOf.{ByteCalls, No12, AllCareful, Kept, eventsOf, run-of, follows-of, careful-of}
+use Rattle.run.proofs.RunOf.{ByteCalls, No12, AllCareful, Kept, eventsOf, run-of, follows-of, careful-no12, careful-of}
 use Rattle.run.proofs.Start.{starts}
 use Rattle.run.proofs.Along.{Along, opened-along}
 
@@ -128,19 +128,13 @@ calls-bytes way =
     let y : (n : ℕ) → Bytes (replicate n 255) × Bytes (replicate 10 255) = λ n. (bytes-ff n, bytes-ff 10) in
     (y 1, (y 1, (tt, (y 1, (tt, (y 2, (tt, (bytes-ff 2, (tt, tt)))))))))
 
-no-12 : (way : Way) → No12 book (calls way)
-unfolding No12 step bySlot editBank editAs refusedEdit editedBy grows commitTo commitBank commitAs judgeBank judgeAs judge carefully due moveIn total liveTotal select liveOf live sizes sizeOf matches deleted deletedState typeOf eqBytes request bankSize partSize
-no-12 old = (go, (go, ((λ o e. omega arith), (go, ((λ o e. omega arith), (go, (go, (go, (go, tt)))))))))
-  where
-    go : {k : ℕ} → false ≡ true → k ≢ 12
-    go o = absurd (true≢false (sym o))
-no-12 careful = (go, (go, (go, (go, (go, (go, (go, (go, (go, tt)))))))))
-  where
-    go : {k : ℕ} → false ≡ true → k ≢ 12
-    go o = absurd (true≢false (sym o))
-
 all-careful : AllCareful (calls careful)
 all-careful = (refl, (refl, (refl, (refl, (refl, (refl, (refl, (refl, (refl, tt)))))))))
+
+no-12 : (way : Way) → No12 book (calls way)
+unfolding No12 step bySlot editBank editAs refusedEdit editedBy grows commitTo commitBank commitAs judgeBank judgeAs judge carefully due moveIn total liveTotal select liveOf live sizes sizeOf matches deleted deletedState typeOf eqBytes request bankSize partSize
+no-12 old = ((λ o e. omega arith), ((λ o e. omega arith), ((λ o e. omega arith), ((λ o e. omega arith), ((λ o e. omega arith), ((λ o e. omega arith), (not-old (commit careful 65536) _ refl, ((λ o e. omega arith), ((λ o e. omega arith), tt)))))))))
+no-12 careful = careful-no12 book (calls careful) all-careful
 
 -- what they ask for
 
@@ -222,19 +216,19 @@ pub record Met (Keeps : Call → ℕ → Type 0) (Asks : Book → List Event →
   pub keeps : Kept Keeps (pages (openedBook image) events)
   pub asks : Asks (openedBook image) events
 
+abbrev s : Nvram
+s = begun (opening image (length work)) work .state
+
+abbrev w : List ℕ
+w = begun (opening image (length work)) work .work
+
+opened-image : Opens image work s w
+unfolding begun
+opened-image = record { bytes = image-bytes; accepted = ap (λ (x : Opened). begun x work .number) opens; state = refl; left = refl }
+
 module _ (way : Way) where
-  abbrev s : Nvram
-  s = begun (opening image (length work)) work .state
-
-  abbrev w : List ℕ
-  w = begun (opening image (length work)) work .work
-
   abbrev es : List Event
   es = eventsOf s w (calls way)
-
-  opened-image : Opens image work s w
-  unfolding begun
-  opened-image = record { bytes = image-bytes; accepted = ap (λ (x : Opened). begun x work .number) opens; state = refl; left = refl }
 
   follows : Kept Follows (pages (openedBook image) es)
   follows =
@@ -263,11 +257,11 @@ module _ (way : Way) where
 
 -- 01's reading, in a run with both commits
 pub met-01 : Met Follows (Twice allCommits)
-met-01 = met old Follows (Twice allCommits) (follows old) (twice image (s old) (w old))
+met-01 = met old Follows (Twice allCommits) (follows old) (twice image s w)
 
 -- 02's (N4), in a run with careful ones alone
 pub met-N4 : Met Careful Despite12
-met-N4 = met careful Careful Despite12 (careful-of _ _ _ (calls careful) all-careful) (despite-12 image (s careful) (w careful))
+met-N4 = met careful Careful Despite12 (careful-of _ _ _ (calls careful) all-careful) (despite-12 image s w)
 
 -- n 2, S 65,536, L at most 8,192: at least 114,690 bytes
 

@@ -6,7 +6,7 @@ use mathlib.Core.Bool.{false}
 use mathlib.Core.Option.{some}
 use Rattle.book.specs.Book.{Book, FineBook}
 use Rattle.book.specs.Call.{Call, ByteCall, Answer, number, step, isOld, Follows}
-use Rattle.book.proofs.StepLaws.{step-fine, settled}
+use Rattle.book.proofs.StepLaws.{step-fine, settled, not-old}
 use Rattle.nvram.specs.declared.state.Nvram.{Nvram}
 use Rattle.nvram.specs.Layout.{view}
 use Rattle.nvram.specs.Contract.{call}
@@ -54,6 +54,12 @@ follows-of b s w (c ∷ cs) f v y n =
     let same : step b c .laid ≡ step b c .after = settled b c (n .0) in
     each-more _ _ _ (subst (λ (x : Answer). Follows c (number x)) (sym (k .answer)) (n .0))
     (follows-of (step b c .after) (a .state) (a .work) cs (subst FineBook same (step-fine b c (y .0) f)) (k .viewed ∙ ap some same) (y .1) (n .1))
+
+-- which it is where all commits are careful
+pub careful-no12 : (b : Book) (cs : List Call) → AllCareful cs → No12 b cs
+unfolding No12
+careful-no12 b [] h = tt
+careful-no12 b (c ∷ cs) h = (not-old c _ (h .0), careful-no12 (step b c .after) cs (h .1))
 
 -- and all its commits are careful where the calls' are
 pub careful-of : (b : Book) (s : Nvram) (w : List ℕ) (cs : List Call) → AllCareful cs → Kept Careful (pages b (eventsOf s w cs))

@@ -18,7 +18,7 @@ use Rattle.run.specs.Flash.{carriedOut}
 use Rattle.run.specs.Run.{Opens, Event, Run, openedBook, Page, pages, Each}
 use Rattle.run.specs.Wear.{activeSize, allCommits, acceptedCommits, mostLive, insertedBytes, requests}
 
--- the answers: number, found or none, place, length, value, both sums and the number of records, erase request, write offset, length and bytes,
+-- the answers: number, found or none, place, length, value, the sums and the number of records, erase request, write offset, length and bytes,
 -- joined bytes
 pub record Answers (p : Page) : Type 0 where
   pub answer : p .event .answer ≡ step (p .before) (p .event .call) .answer
@@ -86,9 +86,10 @@ Claim Keeps counts =
 abbrev pub Claim01 : Type 0
 Claim01 = Claim Follows allCommits
 
--- 02's (N4): every commit is careful, and L is over accepted commits alone
+-- no old commit, whatever the number
 abbrev pub Careful : Call → ℕ → Type 0
 Careful c k = isOld c ≡ false
 
+-- 02's (N4): every commit is careful, and L is over accepted commits alone
 abbrev pub ClaimN4 : Type 0
 ClaimN4 = Claim Careful acceptedCommits

@@ -11,7 +11,7 @@ use Rattle.commit.proofs.move_on.Statement.{statement}
 use Rattle.commit.proofs.move_on.Tie as tie
 use borrow.Author.Needs.{needs}
 
--- as one of the way, by which the move is due
+-- of any way in which a move is due; one is required (`some-way`, `some-left`)
 at-hand : (c : tie.After-slice-known2) (way : Way) → MoveDue way (c .before .before .args .t1) (c .before .before .args .work .now) → Moving way (c .before .before .args .t1) (c .before .before .args .work .now) (c .before .before .args .header) (c .before .before .args .from) (c .before .before .args .to)
 at-hand c way due =
     let p = c .before .before .pre in

@@ -1,5 +1,5 @@
 -- `check_records`: the check of s is that of its bytes from `at` on, with the figures so far added (`Walked`): `begin`, `turn`, `stopped` and
--- `done`. None of the three is over `at`, so adding a record stays in range.
+-- `done`. None of the four is over `at`, so adding a record stays in range.
 use native.Mathlib.Omega.{arith}
 use borrow.Author.Needs.{needs}
 use Prim.Native.Nat.{ℕ, _-_, _≤_}
