@@ -31,6 +31,7 @@ extern "C" {
 #define FEQYONDIL_BANKS_MAX 16u          /* banks of an image */
 #define FEQYONDIL_PART_SIZE 131072u      /* work area for each bank */
 #define FEQYONDIL_STATE_SIZE 204u        /* the state */
+#define FEQYONDIL_BARREL_VALUE_MAX 512u  /* a value of the barrels' insert */
 #define FEQYONDIL_CRC32_TABLE_ENTRIES 4096u /* entries, of four bytes each */
 
 /* Types of a variable. Every number other than 0 is taken as System. */
@@ -58,6 +59,7 @@ extern "C" {
 #define FEQYONDIL_MOVED_OVER 12u   /* the bank has to move, and its live records are over its size */
 #define FEQYONDIL_BANK_OVER 13u    /* a Valid bank's total is over its size */
 #define FEQYONDIL_BANK_LENGTH 14u  /* a bank to compare is not 65,536 bytes */
+#define FEQYONDIL_VALUE_LONG 15u   /* a value of the barrels' insert is over 512 bytes */
 
 /* Kinds of a bank as feqyondil_partition_parse answers them; the state's kinds are below. */
 #define FEQYONDIL_SLOT_SHORT 0u   /* too few bytes were lent */
@@ -206,6 +208,17 @@ uint32_t feqyondil_open(const uint8_t *image, size_t image_len, uint8_t *state, 
  */
 uint32_t feqyondil_insert(uint8_t *state, size_t state_len, uint8_t *work, size_t work_len, const uint8_t *key,
                           size_t key_len, const uint8_t *value, size_t value_len, uint32_t type);
+
+/*
+ * The insert of the chime barrels, whose controller has 512 bytes for a value: feqyondil_insert, but
+ * that a longer value is refused. A record does not say whose insert put it there: either insert
+ * takes the place of the other's values, and feqyondil_remove removes both.
+ *
+ * Refusals: 6, 7, 15 and 8, in this order, of which each leaves state and work area as they were.
+ */
+uint32_t feqyondil_barrel_insert(uint8_t *state, size_t state_len, uint8_t *work, size_t work_len,
+                                 const uint8_t *key, size_t key_len, const uint8_t *value, size_t value_len,
+                                 uint32_t type);
 
 /*
  * Removes every live value of a key and a type from the active bank; where there is none, nothing

@@ -5,6 +5,7 @@ use mathlib.Core.Logic.{_≢_}
 use mathlib.Core.Option.{Option, none}
 use mathlib.Core.List.{List, []}
 use native.Mathlib.Omega.{arith}
+use lib.ListN.{length}
 use lib.Dec.{leb, ltb}
 use borrow.Author.Tests.{leb-true, leb-false}
 use Rattle.bank.specs.Bank.{Bank, Slot, empty, invalid, valid, bankSize, output}
@@ -17,6 +18,7 @@ use Rattle.book.specs.Book.{partSize, Book, activeSlot, withRecords}
 use Rattle.book.specs.Commit.{Way, old, careful, Judged, due, judgeBank, nextBank, nextSlot, request, anyOverfull}
 use Rattle.book.specs.Call as call
 use Rattle.book.specs.Call.{Call, edit, lookup, fetch, figures, commit, wholeImage, Answer, looked, handed, summed, committed, joined, number, refusal, Outcome, stay, stayWith, change, bySlot, editAs, editBank, lookupBank, fetchBank, figuresBank, moveIn, commitAs, commitBank, commitTo, imageTo, step}
+use Rattle.book.proofs.EditedRecords.{by-refused}
 use Rattle.book.proofs.JudgeLaws as judge-laws
 use Rattle.book.proofs.JudgeLaws.{Number, above-6, Decided, Fits, decided-bank, not-due, is-due}
 
@@ -74,10 +76,11 @@ module _ (b : Book) where
   edit-bank : (e : Edit) (k : Bank) → activeSlot b ≡ valid k → Did b (edit e) (editBank b e k)
   unfolding editBank editAs refusedEdit grows
   edit-bank (insert m key value typ) k q =
-      by-test (λ (n : ℕ). Did b (edit (insert m key value typ)) (editAs b (insert m key value typ) k n))
-      (leb (total k + grows (insert m key value typ)) partSize) 0 8
-      (λ t. edits (insert m key value typ) record { bank = k; was = q; small = λ h. leb-true _ _ t })
-      (λ t. refuses 8 (above-6 8 (omega arith)))
+      by-refused (λ (n : ℕ). Did b (edit (insert m key value typ)) (editAs b (insert m key value typ) k n)) m (length value)
+      (total k + grows (insert m key value typ))
+      (refuses 15 (above-6 15 (omega arith)))
+      (refuses 8 (above-6 8 (omega arith)))
+      (λ r. edits (insert m key value typ) record { bank = k; was = q; small = λ h. r })
   edit-bank (remove key typ) k q = edits (remove key typ) record { bank = k; was = q; small = λ h. omega arith }
 
   module _ (room : ℕ) where

@@ -6,4 +6,5 @@ pub mod JudgeLaws
 pub mod Did
 pub mod StepLaws
 pub mod Careful
+pub mod Barrel
 pub mod RefusalLaws

@@ -16,7 +16,7 @@ use Rattle.bank.specs.Read.{found, after, walkTurn, walk, walkFrom, usableAt, s
 use Rattle.bank.specs.Totals.{select, total, liveTotal, liveOf}
 use Rattle.book.specs.Book.{partSize, Book}
 use Rattle.book.specs.Opening.{readSlots, activeFrom, anyValid, Opened, opened, refused, opening}
-use Rattle.book.specs.Edit.{plain, insert, remove, editedBy, grows, refusedEdit}
+use Rattle.book.specs.Edit.{plain, insert, remove, editedBy, grows, refusedInsert, refusedEdit}
 use Rattle.book.specs.Commit.{old, judge, judgeAs, due, judgeBank, request}
 use Rattle.book.specs.Call.{edit, commit, Answer, edited, looked, handed, summed, committed, joined, number, bySlot, editAs, editBank, moveIn, commitAs, commitBank, commitTo, step}
 
@@ -117,5 +117,5 @@ Computed [] = Unit {0}
 Computed (r ∷ rs) = (r .got ≡ r .want) × Computed rs
 
 pub cases : Computed table
-unfolding table totals begins writes afterwards opening readSlots activeFrom anyValid bankSize partSize step bySlot editBank editAs refusedEdit editedBy grows moveIn commitAs commitBank commitTo judgeBank judgeAs judge due request select liveTotal liveOf record-specs.live crc32Of byteSteps byteStep bitSteps bitStep polyIf allFF allBlank countFF eqBytes u16At u32At le32 headerBytes headerOf signed readHeader sizeOf sizes deletedState varHeaderBytes recordBytes recordOf padded found after walkTurn walk walkFrom usableAt slotOf erasedSlot afterHead readBank total
+unfolding table totals begins writes afterwards opening readSlots activeFrom anyValid bankSize partSize step bySlot editBank editAs refusedInsert refusedEdit editedBy grows moveIn commitAs commitBank commitTo judgeBank judgeAs judge due request select liveTotal liveOf record-specs.live crc32Of byteSteps byteStep bitSteps bitStep polyIf allFF allBlank countFF eqBytes u16At u32At le32 headerBytes headerOf signed readHeader sizeOf sizes deletedState varHeaderBytes recordBytes recordOf padded found after walkTurn walk walkFrom usableAt slotOf erasedSlot afterHead readBank total
 cases = (refl, (refl, (refl, (refl, (refl, (refl, (refl, (refl, (refl, (refl, (refl, (refl, (refl, (refl, (refl, (refl, tt))))))))))))))))

@@ -7,16 +7,18 @@ use state_bytes::STATE;
 use state_bytes::load;
 use state_bytes::store;
 use variables::Lookup;
+use variables::Manner;
 use variables::get_variable;
 use variables::insert_variable;
 use variables::remove_variable;
 ghost use mathlib.Core.Path.{_≡_};
 ghost use mathlib.Core.List.{[]};
 ghost use lib.ListN.{length};
-ghost use Rattle.book.specs.Edit.{plain, insert, remove};
+ghost use Rattle.book.specs.Edit.{plain, barrel, insert, remove};
 ghost use Rattle.book.specs.Commit.{old, careful};
 ghost use Rattle.book.specs.Call.{edit, lookup, fetch, figures, commit, wholeImage, number as numberOf};
 ghost use Rattle.variables.specs.LookupAnswer.{lookupAnswer};
+ghost use Rattle.variables.specs.Manner.{mannerOf};
 ghost use Rattle.requests.specs.Applied.{applied};
 ghost use Rattle.commit.specs.Active.{wayOf};
 ghost use Rattle.exports.specs.Store.{varTypeOf, fieldsOf, Calls, ExportOpens};
@@ -45,6 +47,28 @@ pub extern "C" fn feqyondil_open(image: &[u8], state: &mut [u8], work: &mut [u8]
     opened.number
 }
 
+// An insert on the state that the bytes hold.
+fn insert_as(
+    state: &mut [u8],
+    work: &mut [u8],
+    key: &[u8],
+    value: &[u8],
+    typ: u32,
+    manner: Manner,
+) -> u32
+    ensures { λ r. ⌜ Calls (edit (insert (mannerOf manner) (now (key .entry)) (now (value .entry)) (varTypeOf typ))) (now (state .entry)) (now (work .entry)) [] r [] (now (state .exit)) (now (work .exit)) [] ⌝ }
+{
+    let loaded = load(state);
+    if !loaded.ok {
+        return 6;
+    }
+    let before = loaded.state;
+    let edited = insert_variable(before, work, key, value, var_type(typ), manner);
+    let after = edited.state;
+    store(after, state);
+    edited.number
+}
+
 // Appends a value to the active bank, in place of those of its key and type.
 #[no_mangle]
 pub extern "C" fn feqyondil_insert(
@@ -56,15 +80,21 @@ pub extern "C" fn feqyondil_insert(
 ) -> u32
     ensures { λ r. ⌜ Calls (edit (insert plain (now (key .entry)) (now (value .entry)) (varTypeOf typ))) (now (state .entry)) (now (work .entry)) [] r [] (now (state .exit)) (now (work .exit)) [] ⌝ }
 {
-    let loaded = load(state);
-    if !loaded.ok {
-        return 6;
-    }
-    let before = loaded.state;
-    let edited = insert_variable(before, work, key, value, var_type(typ));
-    let after = edited.state;
-    store(after, state);
-    edited.number
+    insert_as(state, work, key, value, typ, Manner::Plain)
+}
+
+// The same, but a value over 512 bytes is refused.
+#[no_mangle]
+pub extern "C" fn feqyondil_barrel_insert(
+    state: &mut [u8],
+    work: &mut [u8],
+    key: &[u8],
+    value: &[u8],
+    typ: u32,
+) -> u32
+    ensures { λ r. ⌜ Calls (edit (insert barrel (now (key .entry)) (now (value .entry)) (varTypeOf typ))) (now (state .entry)) (now (work .entry)) [] r [] (now (state .exit)) (now (work .exit)) [] ⌝ }
+{
+    insert_as(state, work, key, value, typ, Manner::Barrel)
 }
 
 // Deletes the values of a key and type in the active bank, which leaves the state as it was.

@@ -11,6 +11,7 @@ use nvram::Nvram;
 use requests::Erase;
 use variables::Edited;
 use variables::Lookup;
+use variables::Manner;
 use variables::get_variable;
 use variables::insert_variable;
 use variables::remove_variable;
@@ -59,12 +60,12 @@ fn put_value(line: &[u8], out: &mut [u8]) -> usize
     at
 }
 
-pub(crate) fn insert(state: Nvram, work: &mut [u8], line: &[u8]) -> Edited {
+pub(crate) fn insert(state: Nvram, work: &mut [u8], line: &[u8], manner: Manner) -> Edited {
     let mut key = key_room();
     let k = put_bytes(&mut key, 0, field(line, 2));
     let mut value = value_room();
     let n = put_value(line, &mut value);
-    insert_variable(state, work, &key[0..k], &value[0..n], typ(line))
+    insert_variable(state, work, &key[0..k], &value[0..n], typ(line), manner)
 }
 
 pub(crate) fn remove(state: Nvram, work: &mut [u8], line: &[u8]) -> Edited {

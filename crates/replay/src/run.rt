@@ -18,6 +18,7 @@ use commit::Way;
 use nvram::Nvram;
 use std::num::wrapping_add_usize;
 use variables::Edited;
+use variables::Manner;
 ghost use Prim.Native.Nat.{ℕ, _≤_, _<_};
 ghost use lib.ListN.{length};
 
@@ -178,7 +179,10 @@ impl Walk {
             return self.open(line, image, work);
         }
         if kind == b'I' {
-            return self.after(line, 5, insert(state, work, line));
+            return self.after(line, 5, insert(state, work, line, Manner::Plain));
+        }
+        if kind == b'J' {
+            return self.after(line, 5, insert(state, work, line, Manner::Barrel));
         }
         if kind == b'D' {
             return self.after(line, 3, remove(state, work, line));

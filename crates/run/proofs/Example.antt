@@ -28,7 +28,7 @@ use Rattle.bank.proofs.PartitionLaws.{bank-size}
 use Rattle.bank.proofs.PaddedLaws.{length-blanks}
 use Rattle.bank.proofs.OutputLaws.{length-output, bytes-output}
 use Rattle.records.specs.Match.{matches, deleted}
-use Rattle.book.specs.Edit.{plain, insert, remove, editedBy, grows, refusedEdit}
+use Rattle.book.specs.Edit.{Manner, plain, barrel, insert, remove, editedBy, grows, refusedInsert, refusedEdit}
 use Rattle.book.specs.Book.{partSize, Book}
 use Rattle.book.specs.Commit.{Way, old, careful, judge, carefully, judgeAs, due, judgeBank, request}
 use Rattle.book.specs.Opening.{readSlots, activeFrom, anyValid, banksOf, bookOf, Opened, opened, opening}
@@ -112,13 +112,14 @@ opens =
 -- the calls
 
 -- keys of one byte and of two
-abbrev put : ℕ → Call
-put long = edit (insert plain (replicate long 255) (replicate 10 255) Common)
+abbrev put : Manner → ℕ → Call
+put m long = edit (insert m (replicate long 255) (replicate 10 255) Common)
 
--- the second insert and the third make the commit move, with 72 bytes live; the fourth brings them to 121, over the size until it is removed
+-- the second insert and the third make the commit move, with 72 bytes live; the fourth brings them to 121, over the size until it is removed. The
+-- last two are the barrels' (02, N5)
 abbrev calls : Way → List Call
 calls way =
-    put 1 ∷ put 1 ∷ commit way 65536 ∷ put 1 ∷ commit way 65536 ∷ put 2 ∷ commit careful 65536
+    put plain 1 ∷ put plain 1 ∷ commit way 65536 ∷ put barrel 1 ∷ commit way 65536 ∷ put barrel 2 ∷ commit careful 65536
     ∷ edit (remove (replicate 2 255) Common)
     ∷ commit careful 65536
     ∷ []
@@ -132,7 +133,7 @@ all-careful : AllCareful (calls careful)
 all-careful = (refl, (refl, (refl, (refl, (refl, (refl, (refl, (refl, (refl, tt)))))))))
 
 no-12 : (way : Way) → No12 book (calls way)
-unfolding No12 step bySlot editBank editAs refusedEdit editedBy grows commitTo commitBank commitAs judgeBank judgeAs judge carefully due moveIn total liveTotal select liveOf live sizes sizeOf matches deleted deletedState typeOf eqBytes request bankSize partSize
+unfolding No12 step bySlot editBank editAs refusedInsert refusedEdit editedBy grows commitTo commitBank commitAs judgeBank judgeAs judge carefully due moveIn total liveTotal select liveOf live sizes sizeOf matches deleted deletedState typeOf eqBytes request bankSize partSize
 no-12 old = ((λ o e. omega arith), ((λ o e. omega arith), ((λ o e. omega arith), ((λ o e. omega arith), ((λ o e. omega arith), ((λ o e. omega arith), (not-old (commit careful 65536) _ refl, ((λ o e. omega arith), ((λ o e. omega arith), tt)))))))))
 no-12 careful = careful-no12 book (calls careful) all-careful
 
@@ -149,6 +150,10 @@ pub record Twice (counts : ℕ → Bool) (b : Book) (es : List Event) : Type 0 w
   pub commits : first .event .answer ≡ committed 0 (some 0) 0 100
   pub again : erase (second .event .answer) ≡ some 0
   pub within : mostLive counts (first ∷ between) ≤ activeSize b
+  -- all that is inserted between them is the barrels'
+  pub key : List ℕ
+  pub value : List ℕ
+  pub inserted : insertedBytes between ≡ grows (insert barrel key value Common)
   pub requested-once : 0 < requests (earlier ++ (first ∷ []))
 
 -- and between them a careful commit that is refused by 12; with it L would be over S
@@ -163,7 +168,7 @@ pub record Despite12 (b : Book) (es : List Event) : Type 0 where
 
 module _ (f : List ℕ) (s : Nvram) (w : List ℕ) where
   twice : Along book f book 0 (pages book (eventsOf s w (calls old))) → Twice allCommits book (eventsOf s w (calls old))
-  unfolding eventsOf pages mostLive requests step bySlot editBank editAs refusedEdit editedBy grows commitTo commitBank commitAs judgeBank judgeAs judge carefully due moveIn total liveTotal select liveOf live sizes sizeOf matches deleted deletedState typeOf eqBytes request bankSize partSize
+  unfolding eventsOf pages mostLive insertedBytes requests step bySlot editBank editAs refusedInsert refusedEdit editedBy grows commitTo commitBank commitAs judgeBank judgeAs judge carefully due moveIn total liveTotal select liveOf live sizes sizeOf matches deleted deletedState typeOf eqBytes request bankSize partSize
   twice a =
       record {
         earlier = _ ∷ _ ∷ [];
@@ -175,11 +180,14 @@ module _ (f : List ℕ) (s : Nvram) (w : List ℕ) where
         commits = a .2 .2 .1 .answer;
         again = ap erase (a .2 .2 .2 .2 .1 .answer);
         within = omega arith;
+        key = replicate 1 255;
+        value = replicate 10 255;
+        inserted = rw (a .2 .2 .2 .1 .answer) refl;
         requested-once = omega (arith, ap (λ (x : Answer). requested (erase x)) (a .2 .2 .1 .answer));
       }
 
   despite-12 : Along book f book 0 (pages book (eventsOf s w (calls careful))) → Despite12 book (eventsOf s w (calls careful))
-  unfolding eventsOf pages mostLive requests step bySlot editBank editAs refusedEdit editedBy grows commitTo commitBank commitAs judgeBank judgeAs judge carefully due moveIn total liveTotal select liveOf live sizes sizeOf matches deleted deletedState typeOf eqBytes request bankSize partSize
+  unfolding eventsOf pages mostLive insertedBytes requests step bySlot editBank editAs refusedInsert refusedEdit editedBy grows commitTo commitBank commitAs judgeBank judgeAs judge carefully due moveIn total liveTotal select liveOf live sizes sizeOf matches deleted deletedState typeOf eqBytes request bankSize partSize
   despite-12 a =
       let b = a .2 .2 .2 .2 in
       record {
@@ -194,6 +202,9 @@ module _ (f : List ℕ) (s : Nvram) (w : List ℕ) where
               commits = b .1 .answer;
               again = ap erase (b .2 .2 .2 .2 .1 .answer);
               within = rw (b .1 .answer, b .2 .1 .answer, b .2 .2 .1 .answer, b .2 .2 .2 .1 .answer) (omega arith);
+              key = replicate 2 255;
+              value = replicate 10 255;
+              inserted = rw (b .2 .1 .answer, b .2 .2 .2 .1 .answer) refl;
               requested-once = omega (arith, ap (λ (x : Answer). requested (erase x)) (b .1 .answer));
             };
         before = _ ∷ [];

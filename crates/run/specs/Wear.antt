@@ -1,4 +1,4 @@
--- What the wear bound counts (01, 'A run, its book and the flash'; 02, N4): S, the active bank's size; L, the most that live records come to at
+-- What the wear bound counts (01, 'A run, its book and the flash'; 02, N4 and N5): S, the active bank's size; L, the most that live records come to at
 -- commits; the bytes inserted; and erase requests.
 use Prim.Native.Nat.{ℕ, zero, suc, _+_, max}
 use mathlib.Core.List.{List, [], _∷_}
@@ -43,7 +43,7 @@ unfoldable pub mostLive : (ℕ → Bool) → List Page → ℕ
 mostLive counts [] = 0
 mostLive counts (p ∷ ps) = max (cond (counts (number (p .event .answer))) (liveAt (p .before) (p .event .call)) 0) (mostLive counts ps)
 
--- what a call with this number adds: the record size of an insert that is accepted
+-- what a call with this number adds: the record size of an insert that is accepted, of a barrel's too (02, N5)
 abbrev pub added : Call → ℕ → ℕ
 added (edit e) zero = grows e
 added (edit e) (suc k) = 0

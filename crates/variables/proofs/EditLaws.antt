@@ -1,15 +1,14 @@
 -- Inserts and removes where the active bank's records stand from one place of the work area up to another: what the code's writes leave is the
--- edited bank laid out (`work-less`, `work-more`), so the call does what the book says (`removes`, `no-room`, `inserts`).
-use Prim.Native.Nat.{ℕ, zero, suc, _+_, _-_, _≤_}
+-- edited bank laid out (`work-less`, `work-more`), so the call does what the book says (`removes`, `insert-refused`, `inserts`).
+use Prim.Native.Nat.{ℕ, zero, suc, _+_, _-_, _≤_, _<_}
 use mathlib.Core.Path.{_≡_, refl, sym, ap, ap₂, _∙_}
 use mathlib.Core.List.{List, [], _∷_, _++_, append-assoc, append-nil}
 use mathlib.Core.Logic.{_≢_}
-use mathlib.Core.Bool.{Bool, true, false, cond}
+use mathlib.Core.Bool.{true, false}
 use native.Mathlib.Omega.{arith}
-use lib.Dec.{leb}
 use lib.ListN.{length, set, replicate, length-append, length-replicate, replicate-append-replicate}
 use lib.Seq.{set-getD}
-use borrow.Author.Tests.{le-leb, leb-true}
+use borrow.Author.Tests.{le-leb, lt-leb}
 use Rattle.crc32.specs.Crc32.{Bytes}
 use Rattle.buffers.specs.Bytes.{over}
 use Rattle.buffers.proofs.OverLaws.{over-mid, length-over, over-over}
@@ -21,10 +20,10 @@ use Rattle.bank.specs.WellFormed.{FineRecords}
 use Rattle.bank.proofs.LengthLaws.{length-record, length-records}
 use Rattle.records.specs.Match.{removed, fresh}
 use Rattle.records.proofs.RecordLists.{fine-removed, sizes-removed, records-append, guid-length}
-use Rattle.book.specs.Edit.{Manner, Edit, insert, remove, attributesOf, editedBy, grows, refusedEdit}
+use Rattle.book.specs.Edit.{Manner, Edit, insert, remove, attributesOf, editedBy, grows, overCeiling, refusedInsert, refusedEdit}
 use Rattle.book.specs.Book.{partSize, withActive, withRecords}
 use Rattle.book.specs.Call.{edit, edited, change, editAs, editBank, step}
-use Rattle.book.proofs.EditedRecords.{sizes-edited, fine-edited}
+use Rattle.book.proofs.EditedRecords.{has-room, no-attributes, sizes-edited, fine-edited}
 use Rattle.book.proofs.BookLaws.{part-size, part-times}
 use Rattle.nvram.specs.declared.state.Kind.the-variants.{Empty, Valid}
 use Rattle.nvram.specs.declared.state.Entry.{Entry}
@@ -133,27 +132,31 @@ module _ {s : Nvram} {w : List ℕ} {from to : ℕ} (k : Standing s w from to) w
       abbrev more : List Record
       more = less ++ (new ∷ [])
 
-      -- what the code tests is whether the record has room
-      refused-by : refusedEdit (insert m key value typ) (bank g v) ≡ cond (leb (now .total + size) 131072) 0 8
+      -- the number, as the code works it out
+      abbrev refusing : ℕ
+      refusing = refusedInsert m (length value) (now .total + size)
+
+      refused-by : refusing ≡ refusedEdit (insert m key value typ) (bank g v)
       unfolding refusedEdit grows total
-      refused-by =
-          ap₂ (λ (a b : ℕ). cond (leb (a + sizeOf new) b) 0 8) (sym (total-is g v)) part-size
-          ∙ ap (λ (i : ℕ). cond (leb (now .total + i) 131072) 0 8) (sym size-is)
+      refused-by = ap₂ (λ (t i : ℕ). refusedInsert m (length value) (t + i)) (total-is g v) size-is
 
-      pub no-room : (n : ℕ) → n ≡ cond (leb (now .total + size) 131072) 0 8 → n ≢ 0 → Does (edit (insert m key value typ)) s w (edited n) [] s w
-      no-room n q h = does-refused (insert m key value typ) n (q ∙ sym refused-by) h
+      pub insert-refused : (n : ℕ) → n ≡ refusing → n ≢ 0 → Does (edit (insert m key value typ)) s w (edited n) [] s w
+      insert-refused n q h = does-refused (insert m key value typ) n (q ∙ refused-by) h
 
-      module _ (kb : Bytes key) (vb : Bytes value) (room : now .total + size ≤ 131072) where
+      pub insert-room : 0 ≡ refusing → now .total + size ≤ 131072
+      insert-room accepted = omega (arith, has-room m (length value) (now .total + size) accepted, part-size)
+
+      module _ (kb : Bytes key) (vb : Bytes value) (accepted : 0 ≡ refusing) where
         more-fine : FineRecords more
         unfolding editedBy grows
-        more-fine = fine-edited (insert m key value typ) rs (kb, vb) (omega (arith, room, size-is)) rs-fine
+        more-fine = fine-edited (insert m key value typ) rs (kb, vb) (omega (arith, insert-room accepted, size-is)) rs-fine
 
         more-sizes : sizes more ≡ sizes rs + sizeOf new
         unfolding editedBy grows
         more-sizes = sizes-edited (insert m key value typ) rs
 
         fits : 24 + sizes rs + sizeOf new ≤ partSize
-        fits = omega (arith, room, size-is, total-is g v, part-size)
+        fits = omega (arith, insert-room accepted, size-is, total-is g v, part-size)
 
         -- the fresh record takes bytes that were 0xFF
         work-old : w ≡ front g v ++ ((recordsBytes rs ++ replicate (sizeOf new) 255) ++ (replicate (partSize - (24 + sizes more)) 255 ++ rest g v))
@@ -194,28 +197,36 @@ module _ {s : Nvram} {w : List ℕ} {from to : ℕ} (k : Standing s w from to) w
         behind w₁ p =
             let h : from + length (recordsBytes less) ≤ length w =
             omega (arith, k .from-is, part-times (s .active), part-within g, total-high g v, less-length) in
-            omega (arith, ap length p, length-over from (recordsBytes less) w h, k .to-is, part-times (s .active), part-within g, room)
+            omega (arith, ap length p, length-over from (recordsBytes less) w h, k .to-is, part-times (s .active), part-within g, insert-room accepted)
 
         -- the code's two writes
-        pub inserts : (w₁ w₂ : List ℕ) (s′ : Nvram) → w₁ ≡ over from (recordsBytes (removed key typ (records k))) w → w₂ ≡ over to (recordBytes new) w₁
+        pub inserts : (w₁ w₂ : List ℕ) (s′ : Nvram) → w₁ ≡ over from (recordsBytes (removed key typ (records k))) w
+            → w₂ ≡ over to (recordBytes (fresh 0 key value typ)) w₁
             → s′ ≡ setEntry s (s .active) (entry Valid (now .total + size) (now .usable))
             → Does (edit (insert m key value typ)) s w (edited 0) [] s′ w₂
         unfolding records editedBy total
         inserts w₁ w₂ s′ p q z =
             let e : to ≡ from + length (recordsBytes less) = omega (arith, k .from-is, k .to-is, total-is g v, less-length) in
             let h : from + length (recordsBytes less) + length (recordBytes new) ≤ length w =
-            omega (arith, e, k .to-is, part-times (s .active), part-within g, room, size-is, new-length) in
-            let accepted : 0 ≡ refusedEdit (insert m key value typ) (bank g v) = sym (refused-by ∙ rw (le-leb _ _ room)) in
-            does-edit (insert m key value typ) accepted s′ w₂
+            omega (arith, e, k .to-is, part-times (s .active), part-within g, insert-room accepted, size-is, new-length) in
+            does-edit (insert m key value typ) (accepted ∙ refused-by) s′ w₂
             (z ∙ state-with (withRecords (bank g v) more) (now .total + size) (now .usable) (omega (arith, total-is g v, more-sizes, size-is)) (usable-is g v))
-            (q ∙ ap₂ (λ (i : ℕ) (x : List ℕ). over i (recordBytes new) x) e p
+            (q ∙ ap (λ (a : ℕ). over to (recordBytes (fresh a key value typ)) w₁) (sym (no-attributes m))
+            ∙ ap₂ (λ (i : ℕ) (x : List ℕ). over i (recordBytes new) x) e p
             ∙ over-over from (from + length (recordsBytes less)) (recordsBytes less) (recordBytes new) w refl h
             ∙ work-more)
 
--- the number that the code answers for the room of a record
-pub room-of : (x n : ℕ) → n ≡ cond (leb x 131072) 0 8 → n ≡ 0 → x ≤ 131072
-room-of x n q e = go (leb x 131072) refl (sym e ∙ q)
-  where
-    go : (t : Bool) → leb x 131072 ≡ t → _≡_ {A = ℕ} 0 (cond t 0 8) → x ≤ 131072
-    go true p z = leb-true _ _ p
-    go false p z = absurd (omega arith)
+-- the number by the code's tests
+module _ (m : Manner) (long reached : ℕ) where
+  pub answers-15 : overCeiling m long ≡ true → 15 ≡ refusedInsert m long reached
+  unfolding refusedInsert
+  answers-15 t = rw t
+
+  module _ (within : overCeiling m long ≡ false) where
+    pub answers-8 : 131072 < reached → 8 ≡ refusedInsert m long reached
+    unfolding refusedInsert
+    answers-8 h = let p : partSize < reached = omega (arith, h, part-size) in rw (within, lt-leb _ _ p)
+
+    pub answers-0 : reached ≤ 131072 → 0 ≡ refusedInsert m long reached
+    unfolding refusedInsert
+    answers-0 h = let p : reached ≤ partSize = omega (arith, h, part-size) in rw (within, le-leb _ _ p)

@@ -1,1 +1,2 @@
 pub mod LookupAnswer
+pub mod Manner

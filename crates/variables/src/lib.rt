@@ -3,6 +3,7 @@ mod edit;
 mod lookup;
 
 pub use edit::Edited;
+pub use edit::Manner;
 pub use edit::insert_variable;
 pub use edit::remove_variable;
 pub use lookup::Lookup;

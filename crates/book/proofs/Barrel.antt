@@ -1,0 +1,45 @@
+-- To be read: nothing cites it. The barrels' insert beside the clock's (02, N5), on any book: with a value of at most 512 bytes the two are one
+-- (`barrel-same`); with a longer one it is refused by 7 or 15, and changes nothing (`barrel-longer`).
+use Prim.Native.Nat.{ℕ, zero, suc, _≤_, _<_}
+use mathlib.Core.Path.{_≡_, refl, ap, _∙_}
+use mathlib.Core.List.{List}
+use lib.ListN.{length}
+use borrow.Author.Tests.{le-ltb, lt-ltb}
+use Rattle.bank.specs.declared.variable.VarType.{VarType}
+use Rattle.bank.specs.Bank.{Bank, Slot, empty, invalid, valid}
+use Rattle.book.specs.Book.{Book, activeSlot}
+use Rattle.book.specs.Edit.{Edit, plain, barrel, insert, editedBy, grows, refusedInsert, refusedEdit}
+use Rattle.book.specs.Call.{edit, edited, stay, bySlot, editAs, editBank, step}
+
+module _ (b : Book) (key value : List ℕ) (typ : VarType) where
+  abbrev clocks : Edit
+  clocks = insert plain key value typ
+
+  abbrev barrels : Edit
+  barrels = insert barrel key value typ
+
+  same-as : (k : Bank) (n : ℕ) → editAs b barrels k n ≡ editAs b clocks k n
+  unfolding editAs editedBy
+  same-as k zero = refl
+  same-as k (suc n) = refl
+
+  pub barrel-same : length value ≤ 512 → step b (edit barrels) ≡ step b (edit clocks)
+  unfolding step bySlot editBank refusedEdit refusedInsert grows
+  barrel-same h = go (activeSlot b)
+    where
+      number : (k : Bank) → refusedEdit barrels k ≡ refusedEdit clocks k
+      number k = rw (le-ltb _ _ h)
+
+      go : (s : Slot) → bySlot b (edit barrels) (editBank b barrels) s ≡ bySlot b (edit clocks) (editBank b clocks) s
+      go empty = refl
+      go invalid = refl
+      go (valid k) = ap (editAs b barrels k) (number k) ∙ same-as k (refusedEdit clocks k)
+
+  pub barrel-longer : 512 < length value → step b (edit barrels) ≡ bySlot b (edit barrels) (λ k. stay b (edited 15)) (activeSlot b)
+  unfolding step bySlot editBank editAs refusedEdit refusedInsert
+  barrel-longer h = go (activeSlot b)
+    where
+      go : (s : Slot) → bySlot b (edit barrels) (editBank b barrels) s ≡ bySlot b (edit barrels) (λ k. stay b (edited 15)) s
+      go empty = refl
+      go invalid = refl
+      go (valid k) = rw (lt-ltb _ _ h)
