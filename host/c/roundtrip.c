@@ -2,7 +2,7 @@
  * The header and the library from C: a store is opened, edited and committed until its bank moves,
  * the flash is written as the commits ask, and what is opened again has the values. What the header
  * says of null pointers, of the state's numbers, of what records come to, of a store after a move and after
- * 12, of the settings of two banks, and of why reading a bank stopped is tried too.
+ * 12, of the barrels' insert, of the settings of two banks, and of why reading a bank stopped is tried too.
  */
 #include "board.h"
 
@@ -14,6 +14,7 @@
 static uint64_t requests[4], found[3], figures[3], length[1], fields[8], same[1], spot[2];
 
 static const uint8_t key[] = {'r', 'a', 't', 'e'};
+static const uint8_t long_value[FEQYONDIL_BARREL_VALUE_MAX + 1];
 
 #define KEY key, sizeof key
 
@@ -94,7 +95,6 @@ static unsigned turns(void) {
 }
 
 static void insert_too_much(void) {
-    static const uint8_t long_value[SIZE];
     check(feqyondil_insert(STORE, KEY, long_value, SIZE, FEQYONDIL_COMMON) == FEQYONDIL_OK, "a long insert");
 }
 
@@ -109,26 +109,60 @@ static void over(void) {
     find(TURNS);
 }
 
-/* 12 of the careful commit asks for nothing and changes nothing; it is accepted when the long value is removed. */
-static void over_carefully(void) {
-    static const uint64_t nothing[4];
-    static uint8_t old_state[sizeof state], old_work[sizeof work], old_output[sizeof output];
-    insert_too_much();
+static uint8_t old_state[sizeof state], old_work[sizeof work], old_output[sizeof output];
+
+static void keep(void) {
     memcpy(old_state, state, sizeof state);
     memcpy(old_work, work, sizeof work);
     memcpy(old_output, output, sizeof output);
+}
+
+/* State, work area and output are as they were kept. */
+static int is_kept(void) {
+    return memcmp(old_state, state, sizeof state) == 0 && memcmp(old_work, work, sizeof work) == 0 &&
+           memcmp(old_output, output, sizeof output) == 0;
+}
+
+/* 12 of the careful commit asks for nothing and changes nothing; it is accepted when the long value is removed. */
+static void over_carefully(void) {
+    static const uint64_t nothing[4];
+    insert_too_much();
+    keep();
     for (int again = 0; again < 2; again++) {
         memset(requests, 7, sizeof requests);
         check(feqyondil_careful_commit(STORE, output, sizeof output, requests) == FEQYONDIL_MOVED_OVER, "careful 12");
         check(memcmp(requests, nothing, sizeof requests) == 0, "careful 12 asks for something");
-        check(memcmp(old_state, state, sizeof state) == 0, "the state after a careful 12");
-        check(memcmp(old_work, work, sizeof work) == 0, "the work area after a careful 12");
-        check(memcmp(old_output, output, sizeof output) == 0, "the output after a careful 12");
+        check(is_kept(), "the store and the output after a careful 12");
     }
     check(feqyondil_remove(STORE, KEY, FEQYONDIL_COMMON) == FEQYONDIL_OK, "remove");
     check(commit() == 1 && number_at(FEQYONDIL_STATE_TALLY) == 1, "the move after a careful 12");
     reopen();
     find(TURNS);
+}
+
+typedef uint32_t insert_call(uint8_t *, size_t, uint8_t *, size_t, const uint8_t *, size_t, const uint8_t *, size_t,
+                             uint32_t);
+
+/* The length of the value that an insert has put there; nothing else is live of its type. */
+static size_t inserted(insert_call *call, size_t count) {
+    check(call(STORE, KEY, long_value, count, FEQYONDIL_COMMON) == FEQYONDIL_OK, "an insert of either manner");
+    check(feqyondil_figures(STORE, figures) == FEQYONDIL_OK, "figures");
+    check(figures[FEQYONDIL_FIGURES_COMMON] == RECORD - 1 + count, "the sum after an insert of either manner");
+    return feqyondil_value(STORE, KEY, FEQYONDIL_COMMON, NULL, 0);
+}
+
+/* A barrel's value has 512 bytes at most, the clock's may be longer; each takes the place of the other's. */
+static void barrels(void) {
+    check(inserted(feqyondil_barrel_insert, 512) == 512, "a barrel value of 512 bytes");
+    keep();
+    check(feqyondil_barrel_insert(STORE, KEY, long_value, 513, FEQYONDIL_COMMON) == FEQYONDIL_VALUE_LONG, "15");
+    check(is_kept(), "the store after 15");
+    check(inserted(feqyondil_insert, 513) == 513, "the clock's value in the place of the barrels'");
+    check(inserted(feqyondil_barrel_insert, 511) == 511, "the barrels' value in the place of the clock's");
+    check(feqyondil_remove(STORE, KEY, FEQYONDIL_COMMON) == FEQYONDIL_OK, "the remove of a barrel's value");
+    check(feqyondil_lookup(STORE, KEY, FEQYONDIL_COMMON, found) == FEQYONDIL_OK, "lookup");
+    check(found[FEQYONDIL_FOUND] == 0, "a barrel's value that was removed");
+    reopen();
 }
 
 #define ONE flash, FEQYONDIL_BANK_SIZE
@@ -184,13 +218,19 @@ static void nulls_of_banks(void) {
     check(feqyondil_same_settings(NONE, NONE, same) == FEQYONDIL_BANK_LENGTH, "null: settings");
 }
 
-/* Of the edits, the lookups and the figures; an empty key and an empty value are as good as others. */
-static void nulls_of_edits(void) {
-    check(feqyondil_insert(NONE, WORK, KEY, KEY, COMMON) == FEQYONDIL_NOT_SOUND, "null: insert, state");
-    check(feqyondil_insert(STATE, NONE, KEY, KEY, COMMON) == FEQYONDIL_NOT_SOUND, "null: insert, work");
-    check(feqyondil_insert(STORE, NONE, KEY, COMMON) == FEQYONDIL_OK, "null: insert, key");
+/* Of either insert; an empty key and an empty value are as good as others. */
+static void nulls_of_insert(insert_call *call) {
+    check(call(NONE, WORK, KEY, KEY, COMMON) == FEQYONDIL_NOT_SOUND, "null: insert, state");
+    check(call(STATE, NONE, KEY, KEY, COMMON) == FEQYONDIL_NOT_SOUND, "null: insert, work");
+    check(call(STORE, NONE, KEY, COMMON) == FEQYONDIL_OK, "null: insert, key");
     check(feqyondil_value(STORE, NONE, COMMON, output, FLASH) == sizeof key, "null: value, key");
-    check(feqyondil_insert(STORE, NONE, NONE, COMMON) == FEQYONDIL_OK, "null: insert, key and value");
+    check(call(STORE, NONE, NONE, COMMON) == FEQYONDIL_OK, "null: insert, key and value");
+}
+
+/* Of the edits, the lookups and the figures. */
+static void nulls_of_edits(void) {
+    nulls_of_insert(feqyondil_insert);
+    nulls_of_insert(feqyondil_barrel_insert);
     check(feqyondil_lookup(NONE, WORK, KEY, COMMON, found) == FEQYONDIL_NOT_SOUND, "null: lookup, state");
     check(feqyondil_lookup(STATE, NONE, KEY, COMMON, found) == FEQYONDIL_NOT_SOUND, "null: lookup, work");
     check(feqyondil_lookup(STORE, NONE, COMMON, found) == FEQYONDIL_OK, "null: lookup, key");
@@ -234,6 +274,7 @@ int main(void) {
     causes();
     over();
     over_carefully();
+    barrels();
     nulls_of_banks();
     nulls_of_edits();
     nulls_of_flash();

@@ -32,6 +32,9 @@ static void partition_serialize(void) {
 static void bank_cause(void) { answer = feqyondil_bank_cause(flash, sizeof flash, numbers); }
 static void open_store(void) { answer = feqyondil_open(flash, sizeof flash, STORE); }
 static void insert(void) { answer = feqyondil_insert(STORE, KEY, value, sizeof value, FEQYONDIL_SYSTEM); }
+static void barrel_insert(void) {
+    answer = feqyondil_barrel_insert(STORE, KEY, value, FEQYONDIL_BARREL_VALUE_MAX, FEQYONDIL_SYSTEM);
+}
 static void remove_key(void) { answer = feqyondil_remove(STORE, KEY, FEQYONDIL_SYSTEM); }
 static void lookup(void) { answer = feqyondil_lookup(STORE, KEY, FEQYONDIL_SYSTEM, numbers); }
 static void fetch(void) { answer = (uint32_t)feqyondil_value(STORE, KEY, FEQYONDIL_SYSTEM, output, sizeof output); }
@@ -57,6 +60,7 @@ static const struct {
     {"bank_cause", bank_cause},
     {"open", open_store},
     {"insert", insert},
+    {"barrel_insert", barrel_insert},
     {"lookup", lookup},
     {"value", fetch},
     {"figures", figures},

@@ -7,6 +7,9 @@ use image::{number, put_number, Record, BANK, RECORD};
 /// Which commit of the port it is.
 pub const OLD: bool = false;
 pub const CAREFUL: bool = true;
+/// Which insert.
+pub const PLAIN: bool = false;
+pub const BARREL: bool = true;
 /// What an insert puts in the place of the last record's value.
 pub const VALUE: &[u8] = b"another value of 19";
 
@@ -66,9 +69,13 @@ impl Lent {
     }
 
     /// Inserts over the last record, commits if `COMMIT`, and takes the insert back.
-    pub fn insert<const COMMIT: bool>(&mut self, key: &[u8]) -> u32 {
+    pub fn insert<const MANNER: bool, const COMMIT: bool>(&mut self, key: &[u8]) -> u32 {
         let before = self.state;
-        feqyondil::lent::insert(&mut self.state, &mut self.work, key, VALUE, 1);
+        let insert = match MANNER {
+            PLAIN => feqyondil::lent::insert,
+            BARREL => feqyondil::lent::barrel_insert,
+        };
+        insert(&mut self.state, &mut self.work, key, VALUE, 1);
         let done = if COMMIT { self.commit::<OLD>(key) } else { 1 };
         let len = RECORD + key.len() + 1 + VALUE.len();
         self.work[self.end..self.end + len].fill(0xFF);

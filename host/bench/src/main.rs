@@ -20,7 +20,7 @@ use measure::Report;
 #[derive(Parser)]
 #[command(about = "Times the Rust and the port in turns, and says which bars the port meets")]
 struct Words {
-    /// More and longer rounds: some 140 seconds in place of 6
+    /// More and longer rounds: some 150 seconds in place of 7
     #[arg(long)]
     long: bool,
 }

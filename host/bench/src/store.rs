@@ -9,7 +9,7 @@ use oracle::v3;
 use crate::blocks;
 use crate::case::{cases, strikes, Case, INSERT_ROOM, ROOM};
 use crate::checksum::scalar;
-use crate::lent::{Lent, CAREFUL, OLD};
+use crate::lent::{Lent, BARREL, CAREFUL, OLD, PLAIN};
 use crate::measure::{Contender, Report};
 use crate::trusting::*;
 
@@ -18,14 +18,25 @@ type PortCall = fn(&mut Lent, &[u8]) -> u32;
 /// A name, and the Rust's and the port's call.
 type Call = (&'static str, fn(&mut v3::Nvram, &[u8]) -> u32, PortCall);
 
-const EDITS: [Call; 2] = [
-    ("insert", rust_insert::<false>, Lent::insert::<false>),
+/// Two calls of the port, and what is said of the second over the first.
+type Both = (&'static str, [(&'static str, PortCall); 2]);
+
+const EDITS: [Call; 3] = [
+    ("insert", rust_insert::<false>, Lent::insert::<PLAIN, false>),
+    ("barrel insert", rust_insert::<false>, Lent::insert::<BARREL, false>),
     ("remove", rust_remove, Lent::remove),
 ];
+const BOTH_INSERTS: [Both; 1] = [(
+    "barrel insert over the plain one",
+    [
+        ("port insert", Lent::insert::<PLAIN, false>),
+        ("port barrel insert", Lent::insert::<BARREL, false>),
+    ],
+)];
 const COMMITS: [Call; 4] = [
     ("commit in place", rust_commit, Lent::commit::<OLD>),
     ("careful commit in place", rust_commit, Lent::commit::<CAREFUL>),
-    ("insert and commit", rust_insert::<true>, Lent::insert::<true>),
+    ("insert and commit", rust_insert::<true>, Lent::insert::<PLAIN, true>),
     ("whole image", rust_whole, Lent::whole),
 ];
 /// Without a bar, and last, since every one leaves its bank for the next.
@@ -33,17 +44,28 @@ const MOVES: [Call; 2] = [
     ("commit with a move", rust_move, Lent::commit_moved::<OLD>),
     ("careful commit with a move", rust_move, Lent::commit_moved::<CAREFUL>),
 ];
-/// A name, and both commits of the port.
-const BOTH: [(&str, [PortCall; 2]); 2] = [
-    ("in place", [Lent::commit::<OLD>, Lent::commit::<CAREFUL>]),
-    ("with a move", [Lent::commit_moved::<OLD>, Lent::commit_moved::<CAREFUL>]),
+const BOTH_COMMITS: [Both; 2] = [
+    (
+        "careful commit in place over the old one",
+        [("port commit", Lent::commit::<OLD>), ("port careful commit", Lent::commit::<CAREFUL>)],
+    ),
+    (
+        "careful commit with a move over the old one",
+        [
+            ("port commit", Lent::commit_moved::<OLD>),
+            ("port careful commit", Lent::commit_moved::<CAREFUL>),
+        ],
+    ),
 ];
 
 pub fn run(report: &mut Report) {
     report.say("call after call; the port first goes through its whole work area, 131,072 bytes");
     report.say("a bank, and refuses what is not sound; the Rust trusts its memory: its own");
     report.say("lookup, sums, insert and remove only walk a list, and stand beside without a bar");
-    cases(ROOM).iter().for_each(|case| calls(case, report));
+    for case in &cases(ROOM) {
+        calls(case, report);
+        both(&BOTH_INSERTS, case, report);
+    }
 }
 
 fn calls(case: &Case, report: &mut Report) {
@@ -90,7 +112,7 @@ pub fn run_commits(report: &mut Report) {
     let strikes = [2, 16].map(|n| Case::new(n, "full of strike counts", strikes(INSERT_ROOM), 1.5));
     for case in cases(INSERT_ROOM).into_iter().chain(strikes) {
         commits(&case, report);
-        both_commits(&case, report);
+        both(&BOTH_COMMITS, &case, report);
     }
 }
 
@@ -110,15 +132,16 @@ fn commits(case: &Case, report: &mut Report) {
     }
 }
 
-fn both_commits(case: &Case, report: &mut Report) {
+/// Each on the same state and work area.
+fn both(calls: &[Both], case: &Case, report: &mut Report) {
     let (key, (lent, _)) = (&case.last().key, case.opened());
     let lent = RefCell::new(lent);
-    for (how, [old, careful]) in BOTH {
+    for (call, [(first, one), (second, other)]) in calls {
         let contenders: &mut [Contender] = &mut [
-            ("port commit", &mut |key| old(&mut lent.borrow_mut(), key)),
-            ("port careful commit", &mut |key| careful(&mut lent.borrow_mut(), key)),
+            (first, &mut |key| one(&mut lent.borrow_mut(), key)),
+            (second, &mut |key| other(&mut lent.borrow_mut(), key)),
         ];
-        let title = format!("careful commit {how} over the old one of ours, {}", case.name);
+        let title = format!("{call} of ours, {}", case.name);
         report.table(&title, contenders, key, Some(1.03));
     }
 }

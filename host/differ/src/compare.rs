@@ -7,7 +7,7 @@ mod cuts;
 mod runs;
 mod settings;
 
-use cuts::{Manner, Repeated, Single, Strikes};
+use cuts::{GoesOn, Repeated, Single, Strikes};
 use feqyondil::bank_cause;
 
 use crate::judge::Judge;
@@ -24,8 +24,8 @@ pub fn all(judge: &mut Judge) -> Result<(), String> {
     judge.hold(&any_state::AnyState { port })?;
     judge.hold(&Strikes { port })?;
     judge.hold(&Single { port })?;
-    judge.hold(&Repeated { port, manner: Manner::StraightOn })?;
-    judge.hold(&Repeated { port, manner: Manner::MoveFirst })
+    judge.hold(&Repeated { port, goes_on: GoesOn::StraightOn })?;
+    judge.hold(&Repeated { port, goes_on: GoesOn::MoveFirst })
 }
 
 #[cfg(test)]

@@ -23,6 +23,17 @@ extern "C" {
         value_len: usize,
         typ: u32,
     ) -> u32;
+    fn feqyondil_barrel_insert(
+        state: *mut u8,
+        state_len: usize,
+        work: *mut u8,
+        work_len: usize,
+        key: *const u8,
+        key_len: usize,
+        value: *const u8,
+        value_len: usize,
+        typ: u32,
+    ) -> u32;
     fn feqyondil_remove(
         state: *const u8,
         state_len: usize,
@@ -104,14 +115,40 @@ pub fn open(image: &[u8], state: &mut [u8], work: &mut [u8]) -> u32 {
 
 /// Inserts a record of type `typ`, 0 for Common: 0, 6, 7 or 8.
 pub fn insert(state: &mut [u8], work: &mut [u8], key: &[u8], value: &[u8], typ: u32) -> u32 {
+    insert_by(feqyondil_insert, state, work, key, value, typ)
+}
+
+/// The same, but a value over 512 bytes is refused: 0, 6, 7, 15 or 8.
+pub fn barrel_insert(state: &mut [u8], work: &mut [u8], key: &[u8], value: &[u8], typ: u32) -> u32 {
+    insert_by(feqyondil_barrel_insert, state, work, key, value, typ)
+}
+
+type InsertCall = unsafe extern "C" fn(
+    *mut u8,
+    usize,
+    *mut u8,
+    usize,
+    *const u8,
+    usize,
+    *const u8,
+    usize,
+    u32,
+) -> u32;
+
+fn insert_by(
+    call: InsertCall,
+    state: &mut [u8],
+    work: &mut [u8],
+    key: &[u8],
+    value: &[u8],
+    typ: u32,
+) -> u32 {
     let (state, state_len) = (state.as_mut_ptr(), state.len());
     let (work, work_len) = (work.as_mut_ptr(), work.len());
     let (key, key_len) = (key.as_ptr(), key.len());
     let (value, value_len) = (value.as_ptr(), value.len());
-    // SAFETY: as above.
-    unsafe {
-        feqyondil_insert(state, state_len, work, work_len, key, key_len, value, value_len, typ)
-    }
+    // SAFETY: as above; the call is one of the two inserts.
+    unsafe { call(state, state_len, work, work_len, key, key_len, value, value_len, typ) }
 }
 
 /// Removes the live records of `key` and `typ`: 0, 6 or 7. The state stays as it is.

@@ -53,5 +53,7 @@ pub const BANKS_MAX: usize = 16;
 pub const PART_SIZE: usize = 131_072;
 /// Bytes of the state.
 pub const STATE_SIZE: usize = 204;
+/// Most bytes of a value of the barrels' insert.
+pub const BARREL_VALUE_MAX: usize = 512;
 /// Entries of the checksum's tables, of four bytes each.
 pub const CRC32_TABLE_ENTRIES: usize = 4096;

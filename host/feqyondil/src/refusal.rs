@@ -49,6 +49,7 @@ refusals! {
     MovedOver = 12, "the bank has to move, and its live records are over its size";
     BankOver = 13, "a Valid bank's total is over its size";
     BankLength = 14, "a bank to compare is not 65,536 bytes";
+    ValueLong = 15, "a value of the barrels' insert is over 512 bytes";
 }
 
 impl Refusal {

@@ -65,6 +65,17 @@ impl<'a> Store<'a> {
         Refusal::check(number)
     }
 
+    /// The insert of the chime barrels, whose controller has 512 bytes for a value
+    /// ([`BARREL_VALUE_MAX`](crate::BARREL_VALUE_MAX)): [`insert`](Store::insert), but that a longer
+    /// value is refused. A record does not say whose insert put it there: either insert takes the
+    /// place of the other's values, and [`remove`](Store::remove) removes both.
+    ///
+    /// Refusals: NotValid, ValueLong, Full, in this order.
+    pub fn barrel_insert(&mut self, key: &[u8], value: &[u8], typ: VarType) -> Result<(), Refusal> {
+        let number = lent::barrel_insert(&mut self.state, self.work, key, value, typ.number());
+        Refusal::check(number)
+    }
+
     /// Removes every live value of a key and a type from the active bank; where there is none,
     /// nothing changes.
     ///

@@ -8,7 +8,7 @@ mod single;
 mod steps;
 mod strikes;
 
-pub use repeated::{Manner, Repeated};
+pub use repeated::{GoesOn, Repeated};
 pub use single::Single;
 pub use strikes::Strikes;
 

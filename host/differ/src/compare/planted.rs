@@ -1,6 +1,7 @@
 //! The comparisons can fail: faults planted in the port are found among random inputs, and made as
 //! small as is said.
 
+mod barrel;
 mod careful;
 mod causes;
 mod faults;
@@ -21,6 +22,7 @@ use crate::partition::slot::Slot;
 use crate::partition::Read;
 use crate::store::fixed::two_banks;
 use crate::store::lent::port::{Done, Port};
+use barrel::*;
 use careful::*;
 use faults::*;
 use figures::*;
@@ -105,6 +107,17 @@ const CAREFUL_RUNS: [Row; 9] = [
     (says_12_before_11, 2, 2, &["01:   11, erase 0 at 0", "port: 12, erase 0 at 0"]),
 ];
 
+const BARREL_RUNS: [Row; 8] = [
+    (refuses_512, 1, 0, &["call 1: barrel insert of ", "01:   0\n  port: 15"]),
+    (takes_513, 1, 0, &["call 1: barrel insert of ", "01:   15\n  port: 0"]),
+    (says_8_before_15, 2, 0, &[": barrel insert of ", "01:   15\n  port: 8"]),
+    (says_15_before_6, 1, 0, &["call 1: barrel insert of ", "01:   6\n  port: 15"]),
+    (says_15_before_7, 1, 0, &["call 1: barrel insert of ", "01:   7\n  port: 15"]),
+    (kills_none, 2, 1, &[": barrel insert of ", "on, 01: [7c, ", "port: [7f, "]),
+    (kills_with_15, 2, 1, &[": barrel insert of ", "on, 01: [7f, ", "port: [7c, "]),
+    (limits_the_clock, 1, 0, &["call 1: insert of ", "01:   0\n  port: 15"]),
+];
+
 const ANY_STATE: [Row; 2] = [
     (skips_entries, 0, 0, &["01:   6, found 0"]),
     (wraps_the_tally, 1, 2, &["tally 4294967295", "tally 0"]),
@@ -122,11 +135,11 @@ fn small((_, calls, records, words): Row, size: (usize, usize), told: &str) {
 #[test]
 fn faults_are_found_in_runs() {
     let moving = || Style { reach: Just(Reach::Free).boxed(), ..Style::small() };
-    let rows = RUNS.map(|row| (Style::store(), row)).into_iter();
+    let rows = RUNS.into_iter().chain(BARREL_RUNS).map(|row| (Style::store(), row));
     let rows = rows.chain(MOVING_RUNS.map(|row| (moving(), row)));
     for (style, row) in rows.chain(CAREFUL_RUNS.map(|row| (Style::careful(), row))) {
         let runs = Runs { port: planted(row.0) };
-        let Difference { input, why } = found_from(10, &runs, run(&style, 20, false));
+        let Difference { input, why } = found_from(18, &runs, run(&style, 20, false));
         let size = (input.calls.len(), input.image.records());
         small(row, size, &format!("{input}\n{why}"));
     }

@@ -9,6 +9,9 @@ use crate::store::run::counts::Counts;
 use crate::store::run::{compare, wrapper};
 
 const TWO_BANKS: &str = "the bench case of two banks";
+const RANDOM: &str = "random";
+const MOVING: &str = "banks that move";
+const CAREFULLY: &str = "careful commits alone";
 
 pub struct Runs {
     pub port: Port,
@@ -30,9 +33,9 @@ impl Comparison for Runs {
             Part::each("at the lengths' edges", edges),
             Part::each("the fixed list", fixed),
             Part::each(TWO_BANKS, [two_banks].into_iter()),
-            Part::drawn("random", mode.pick(600, 24_000, 20), any),
-            Part::drawn("banks that move", mode.pick(120, 30_000, 20), moving),
-            Part::drawn("careful commits alone", mode.pick(120, 20_000, 20), careful),
+            Part::drawn(RANDOM, mode.pick(600, 24_000, 20), any),
+            Part::drawn(MOVING, mode.pick(120, 30_000, 20), moving),
+            Part::drawn(CAREFULLY, mode.pick(120, 20_000, 20), careful),
         ]
     }
 
@@ -66,43 +69,48 @@ impl judge::Counts for Counts {
 mod tests {
     use super::*;
     use crate::judge::Judge;
-    use crate::store::lent::call::CAREFUL;
+    use crate::store::lent::call::{BARREL, CAREFUL};
     use crate::store::run::counts::{
-        By, ACCEPTED_PAIRS, AFTER_12, ERASES, FOUND, MOVES, PAIRS, RUST_REOPENED,
+        By, ABOUT_512, ACCEPTED_PAIRS, AFTER_12, ERASES, FOUND, MOVES, PAIRS, RUST_REOPENED,
+        WITHOUT_ROOM,
     };
 
-    /// What is counted of so many runs.
-    fn counted(count: u32, style: &Style, calls: usize) -> Counts {
-        let inputs = Part::drawn("", count, run(style, calls, false)).inputs;
-        let runs = Runs { port: Port::default() };
-        Judge::new(Mode::Short, 5).part(&runs, "", inputs).unwrap()
+    /// What is counted of these parts of the short mode.
+    fn counted(names: &[&str]) -> Counts {
+        let (runs, mut all) = (Runs { port: Port::default() }, Counts::default());
+        for name in names {
+            let part = runs.parts(Mode::Short).into_iter().find(|part| part.name == *name).unwrap();
+            let place = format!("{}: {name}", Runs::NAME);
+            all += Judge::new(Mode::Short, 1).part(&runs, &place, part.inputs).unwrap();
+        }
+        all
     }
 
     fn reached(counts: &By<u32>, numbers: &[u32]) -> bool {
         numbers.iter().all(|&number| counts.of(number) > 0)
     }
 
-    /// By old commits and by careful ones; no other call is refused by these.
+    /// By old commits and by careful ones.
     fn reached_by_both(all: &Counts, numbers: &[u32]) -> bool {
-        let old = |number| all.numbers.of(number) - all.careful.of(number);
-        reached(&all.careful, numbers) && numbers.iter().all(|&number| old(number) > 0)
+        ["commits", CAREFUL].iter().all(|kind| reached(&all.of_kind(kind), numbers))
     }
 
     #[test]
     fn runs_reach_every_refusal() {
-        let all = counted(600, &Style::store(), 12);
+        let all = counted(&[RANDOM, MOVING]);
         assert!(reached(&all.openings, &[0, 3, 4, 6]), "{all}");
         assert!(reached(&all.numbers, &[0, 5, 6, 7, 8, 9, 10, 12, 13]), "{all}");
-        assert!(reached(&all.careful, &[0, 5, 6, 7]), "{all}");
-        assert!(reached_by_both(&all, &[9, 10, 12]), "{all}");
-        let calls =
-            ["inserts", "removes", "lookups", "values", "figures", "commits", "whole images"];
+        assert!(reached_by_both(&all, &[0, 5, 6, 7, 9, 10, 12]), "{all}");
+        let calls = ["inserts", "removes", "lookups", "values", "figures", "whole images"];
         assert!(calls.iter().all(|call| all.others.of(call) > 0), "{all}");
+        assert!(reached(&all.of_kind(BARREL), &[0, 6, 7, 15, 8]), "{all}");
+        assert!(ABOUT_512.iter().all(|(_, about)| all.others.of(about) > 0), "{all}");
+        assert!(all.others.of(WITHOUT_ROOM) > 0, "{all}");
     }
 
     #[test]
     fn banks_move_and_every_refusal_of_a_commit_is_reached() {
-        let all = counted(100, &Style::small(), 90);
+        let all = counted(&[MOVING]);
         assert!(reached(&all.numbers, &[0, 5, 13]), "{all}");
         assert!(reached_by_both(&all, &[9, 10, 11, 12]), "{all}");
         let of = |name| all.others.of(name);
@@ -113,8 +121,8 @@ mod tests {
 
     #[test]
     fn careful_runs_go_on_after_12() {
-        let all = counted(100, &Style::careful(), 90);
-        assert!(reached(&all.careful, &[0, 5, 9, 10, 11, 12]), "{all}");
+        let all = counted(&[CAREFULLY]);
+        assert!(reached(&all.of_kind(CAREFUL), &[0, 5, 9, 10, 11, 12]), "{all}");
         let of = |name| all.others.of(name);
         assert!(of(CAREFUL) > 1_000 && of("commits") == 0, "{all}");
         assert!(of(AFTER_12) > 50 && of(RUST_REOPENED) > 100, "{all}");

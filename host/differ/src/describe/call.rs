@@ -10,11 +10,11 @@ use super::list::list;
 use super::style::Style;
 use super::value::{Room, Value};
 use crate::store::book::{Bank, Book, LIVE};
-use crate::store::lent::call::{self, Way, What};
+use crate::store::lent::call::{self, Manner, Way, What};
 
 #[derive(Clone, Debug, PartialEq)]
 pub enum Call {
-    Insert(Var, Value),
+    Insert(Manner, Var, Value),
     Remove(Var),
     Lookup(Var),
     /// With room for so many bytes.
@@ -64,7 +64,7 @@ impl Call {
                 return call::Call::new(what, b"", 0);
             }
             Call::Whole(more) => return call::Call::whole(room(*more, banks * BANK as isize)),
-            Call::Insert(var, value) => return insert(var, value, bank, reach),
+            Call::Insert(manner, var, value) => return insert(*manner, var, value, bank, reach),
             Call::Remove(var) => (What::Remove, var),
             Call::Lookup(var) => (What::Lookup, var),
             Call::Value(var, room) => (What::Value(*room), var),
@@ -74,7 +74,13 @@ impl Call {
     }
 }
 
-fn insert(var: &Var, value: &Value, bank: Option<&Bank>, reach: Reach) -> call::Call {
+fn insert(
+    manner: Manner,
+    var: &Var,
+    value: &Value,
+    bank: Option<&Bank>,
+    reach: Reach,
+) -> call::Call {
     let (key, typ) = var.made(bank);
     let mut value = value.made(bank, key.len());
     let room = match (reach, bank) {
@@ -87,7 +93,7 @@ fn insert(var: &Var, value: &Value, bank: Option<&Bank>, reach: Reach) -> call::
         return call::Call { what: What::Remove, key, typ };
     };
     value.truncate(room);
-    let what = What::Insert(value);
+    let what = What::Insert(manner, value);
     call::Call { what, key, typ }
 }
 
@@ -138,7 +144,7 @@ pub fn edit(style: &Style) -> impl Strategy<Value = Call> {
     prop_oneof![
         3 => var(style).prop_map(Call::Remove),
         style.inserts => (var(style), style.insert.clone())
-            .prop_map(|(var, value)| Call::Insert(var, value)),
+            .prop_map(|(var, (manner, value))| Call::Insert(manner, var, value)),
     ]
 }
 
@@ -169,13 +175,13 @@ mod tests {
     fn made(value: Value, reach: Reach) -> What {
         let image = ::image::bank(&Header::new(200, 1), &[Record::live(b"k", b"v")]);
         let book = Book::open(&image, usize::MAX).unwrap();
-        Call::Insert(Var::Live(3), value).made(Some(&book), reach).what
+        Call::Insert(Manner::Barrel, Var::Live(3), value).made(Some(&book), reach).what
     }
 
     #[test]
     fn values_are_as_long_as_the_store_has_room() {
         let room = |room, more| Value::Room(room, more, Some(7));
-        let insert = |len| What::Insert(vec![7; len]);
+        let insert = |len| What::Insert(Manner::Barrel, vec![7; len]);
         // 24 and 39 bytes are used, and the record has 38 before its value.
         assert_eq!(made(room(Room::Usable, 1), Reach::Free), insert(100));
         assert_eq!(made(room(Room::Size, 0), Reach::Free), insert(99));
@@ -188,17 +194,20 @@ mod tests {
     #[test]
     fn over_the_size_a_record_is_removed() {
         let image = ::image::bank(&Header::new(100, 1), &[Record::live(b"k", b"v")]);
-        let insert =
-            |len| Call::Insert(Var::Of(Bytes::of(b"a"), 1), Value::Of(Bytes::Fill(len, 7)));
+        let insert = |len| {
+            let (var, value) = (Var::Of(Bytes::of(b"a"), 1), Value::Of(Bytes::Fill(len, 7)));
+            Call::Insert(Manner::Plain, var, value)
+        };
         let mut book = Book::open(&image, usize::MAX).unwrap();
         let commit = Call::Commit(Way::Old, 0);
         let over = insert(1).made(Some(&book), Reach::Over);
-        assert_eq!(over.what, What::Insert(vec![7]));
+        assert_eq!(over.what, What::Insert(Manner::Plain, vec![7]));
         assert_eq!(commit.made(Some(&book), Reach::Over), call::Call::commit(BANK));
         book.answer(&over);
         let remove = call::Call::new(What::Remove, b"k", 1);
         assert_eq!(insert(0).made(Some(&book), Reach::Over), remove);
-        assert_eq!(insert(0).made(Some(&book), Reach::Free).what, What::Insert(vec![]));
+        let free = insert(0).made(Some(&book), Reach::Free);
+        assert_eq!(free, call::Call::insert(b"a", b"", 1));
         assert_eq!(commit.made(Some(&book), Reach::Over), call::Call::careful(BANK));
         assert_eq!(commit.made(Some(&book), Reach::Free), call::Call::commit(BANK));
     }

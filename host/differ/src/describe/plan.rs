@@ -38,7 +38,7 @@ impl Plan {
         let records = banks.flat_map(|bank| &bank.records);
         let stored = records.map(|record| record.key.made());
         let edited = self.actions.iter().filter_map(|action| match action {
-            Action::Edit(Call::Insert(Var::Of(key, _), _) | Call::Remove(Var::Of(key, _))) => {
+            Action::Edit(Call::Insert(_, Var::Of(key, _), _) | Call::Remove(Var::Of(key, _))) => {
                 Some(key.made())
             }
             Action::Edit(Call::Made(call)) => Some(call.key.clone()),

@@ -8,7 +8,7 @@ use super::bytes::{content, key, odd, with_record, Bytes};
 use super::call::Reach;
 use super::damage::NUMBERS;
 use super::value::{Room, Value};
-use crate::store::lent::call::Way;
+use crate::store::lent::call::{Manner, Way};
 
 /// Few keys, so that a bank has several records of one.
 const KEYS: [&[u8]; 6] = [b"a", b"", b"b", b"rate", b"\0", b"\xFF\xFF\xFF"];
@@ -35,8 +35,8 @@ pub struct Style {
     pub fewest: usize,
     pub bank_of: u32,
     pub damaged_of: Option<u32>,
-    /// Of an insert.
-    pub insert: BoxedStrategy<Value>,
+    /// Which insert it is, and its value.
+    pub insert: BoxedStrategy<(Manner, Value)>,
     /// How many inserts and commits there are to five lookups.
     pub inserts: u32,
     pub commits: u32,
@@ -69,12 +69,15 @@ impl Style {
         ];
         let any = any::<u32>().prop_map(|less| u32::MAX - less);
         let near = || -2..=2isize;
-        let insert = prop_oneof![
+        // What is left in the work area is about a record with a value of 512 bytes.
+        let about = -560..=-540isize;
+        let value = prop_oneof![
             22 => content(0..80usize).prop_map(Value::Of),
             1 => content(0..20_000usize).prop_map(Value::Of),
             1 => content(select(&[65_400, 65_536, 131_072, 200_000][..])).prop_map(Value::Of),
             2 => near().prop_map(|more| Value::Room(Room::Usable, more, None)),
             2 => near().prop_map(|more| Value::Room(Room::Part, more, None)),
+            2 => about.prop_map(|more| Value::Room(Room::Part, more, None)),
         ];
         Style {
             size: size.boxed(),
@@ -88,7 +91,7 @@ impl Style {
             fewest: 1,
             bank_of: 4,
             damaged_of: Some(10),
-            insert: insert.boxed(),
+            insert: either(value),
             inserts: 9,
             commits: 3,
             way: select(&[Way::Old, Way::Careful][..]).boxed(),
@@ -112,7 +115,7 @@ impl Style {
         ];
         let limit = prop_oneof![12 => Just(u32::MAX), 1 => select(&[0, 100, 200, 1000][..])];
         let over = || 0..=2isize;
-        let insert = prop_oneof![
+        let value = prop_oneof![
             2 => content(0..9usize).prop_map(Value::Of),
             3 => content(0..200usize).prop_map(Value::Of),
             1 => content(0..2_000usize).prop_map(Value::Of),
@@ -125,7 +128,7 @@ impl Style {
             most: 6,
             bank_of: 6,
             damaged_of: Some(20),
-            insert: insert.boxed(),
+            insert: either(value),
             inserts: 20,
             commits: 14,
             reach: reach(2),
@@ -152,6 +155,7 @@ impl Style {
         let free = select(&[0, 0, 0, -1, -5, -36, -37][..]);
         let byte = select(&[Some(0), Some(0xFF), Some(7)][..]);
         let room = (free, byte).prop_map(|(more, byte)| Value::Room(Room::Gap, more, byte));
+        let insert = prop_oneof![4 => value().prop_map(Value::Of), 3 => room];
         Style {
             size: size.boxed(),
             limit: Just(u32::MAX).boxed(),
@@ -164,11 +168,23 @@ impl Style {
             fewest: 2,
             bank_of: 3,
             damaged_of: None,
-            insert: prop_oneof![4 => value().prop_map(Value::Of), 3 => room].boxed(),
+            insert: insert.prop_map(|value| (Manner::Plain, value)).boxed(),
             reach: Just(Reach::Size).boxed(),
             ..Style::store()
         }
     }
+}
+
+/// Of three inserts one is the barrels', and of three of these one has a value about the longest.
+fn either(value: impl Strategy<Value = Value> + 'static) -> BoxedStrategy<(Manner, Value)> {
+    let value = value.boxed();
+    let about = content(select(&[511, 512, 513][..])).prop_map(Value::Of);
+    let barrels = prop_oneof![2 => value.clone(), 1 => about];
+    prop_oneof![
+        2 => value.prop_map(|value| (Manner::Plain, value)),
+        1 => barrels.prop_map(|value| (Manner::Barrel, value)),
+    ]
+    .boxed()
 }
 
 /// So many of eight go over a bank's size, one as far as it goes, and the others stay within.

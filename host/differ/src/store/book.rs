@@ -21,7 +21,7 @@ impl Book {
             What::Whole(room) => self.whole(call, room),
             What::Lookup | What::Value(_) => self.lookup(call),
             What::Figures => self.figures(call),
-            What::Insert(_) | What::Remove => self.edit(call),
+            What::Insert(..) | What::Remove => self.edit(call),
         }
     }
 }

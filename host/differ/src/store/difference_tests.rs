@@ -7,7 +7,7 @@ use std::process::Command;
 use image::{put_number, BANK};
 
 use super::fuzz::{self, Case};
-use super::lent::call::{Call, What};
+use super::lent::call::{Call, What, CAREFUL};
 use super::lent::{Port, Standing};
 use super::run::counts::{Counts, ERASES, MOVES, RUST_CALLED, RUST_OPENED};
 use super::run::{compare, Run};
@@ -19,7 +19,11 @@ fn judged(image: &[u8], calls: Vec<Call>) -> Counts {
 }
 
 fn insert(len: usize) -> Call {
-    Call::new(What::Insert(vec![9; len]), b"", 0)
+    Call::insert(b"", &vec![9; len], 0)
+}
+
+fn barrel(len: usize) -> Call {
+    Call::barrel(b"", &vec![9; len], 0)
 }
 
 /// A bank of 0xFF but for signature, size 24, version and generation.
@@ -41,7 +45,8 @@ fn the_rust_panics_where_the_active_slot_is_not_valid() {
     let image = [vec![0xFF; BANK], plain(0)].concat();
     let panics = Err("it panics".to_string());
     let [lookup, remove] = [What::Lookup, What::Remove].map(|what| Call::new(what, b"", 1));
-    for call in [lookup, remove, insert(0), Call::figures(), commit(), careful()] {
+    let edits = [remove, insert(0), barrel(0), barrel(513)];
+    for call in edits.into_iter().chain([lookup, Call::figures(), commit(), careful()]) {
         assert_eq!(rust_answers(&image, &call), panics);
         assert_eq!(judged(&image, vec![call]).numbers.of(7), 1);
     }
@@ -68,6 +73,18 @@ fn the_rust_inserts_past_the_work_area() {
     let (over, full) = (counts(131_012), counts(131_011));
     assert_eq!((over.numbers.of(8), over.others.of(RUST_CALLED)), (1, 0));
     assert_eq!((full.numbers.of(0), full.others.of(RUST_CALLED)), (1, 1));
+}
+
+#[test]
+fn the_rust_has_no_ceiling_for_barrels() {
+    let image = plain(1);
+    let mut rust = rust::Rust::open(&image).unwrap().unwrap();
+    assert_eq!(rust.answer(&barrel(513)).unwrap().to_string(), "0");
+    assert_eq!(rust.book(0).unwrap().state().entries[0].total, 574);
+    let counts = |len| judged(&image, vec![barrel(len), Call::figures()]);
+    let (over, full) = (counts(513), counts(512));
+    assert_eq!((over.numbers.of(15), over.others.of(RUST_CALLED)), (1, 1));
+    assert_eq!((full.numbers.of(0), full.others.of(RUST_CALLED)), (2, 2));
 }
 
 #[test]
@@ -147,7 +164,8 @@ fn the_rust_moves_before_it_refuses() {
 #[test]
 fn after_a_careful_12_the_rust_is_asked_again() {
     let counts = judged(&plain(1), vec![insert(0), careful(), remove(), careful()]);
-    assert_eq!((counts.careful.of(12), counts.careful.of(0)), (1, 1));
+    let careful = counts.of_kind(CAREFUL);
+    assert_eq!((careful.of(12), careful.of(0)), (1, 1));
     assert_eq!(counts.others.of(RUST_CALLED), 3);
 }
 
@@ -159,7 +177,7 @@ fn the_rust_has_one_word_for_three_refusals() {
         put_number(&mut image, at, 0);
         image
     };
-    let system = Call::new(What::Insert(vec![]), b"", 1);
+    let system = Call::insert(b"", b"", 1);
     for (image, put, number) in
         [(limited(16), system, 9), (limited(20), insert(0), 10), (unlimited(), insert(BANK), 12)]
     {

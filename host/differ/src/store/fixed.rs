@@ -1,12 +1,15 @@
 //! Runs without a random number: the fixed list of small images, each made for one thing to be
 //! seen, also as text with the oracle's answers, and the bench case of two banks.
 
+mod barrel;
 mod careful;
 mod commits;
 pub mod edges;
 mod figures;
 mod pieces;
 mod replay;
+#[cfg(test)]
+mod told;
 pub mod two_banks;
 
 use image::{put_number, Header, Record, BANK, COMMON_GUID, HEADER, RECORD};
@@ -18,7 +21,8 @@ use pieces::{ending, get, held, put, remove, value, Named};
 
 /// The list's runs, and those with calls that the oracle cannot be asked.
 pub fn runs() -> Vec<Run> {
-    list().into_iter().chain(careful::others()).map(|(_, run)| run).collect()
+    let others = careful::others().into_iter().chain(barrel::others());
+    list().into_iter().chain(others).map(|(_, run)| run).collect()
 }
 
 /// The list with the oracle's answers.
@@ -35,6 +39,7 @@ fn list() -> Vec<Named> {
     out.extend(figures::list());
     out.extend(commits::list());
     out.extend(careful::list());
+    out.extend(barrel::list());
     out
 }
 

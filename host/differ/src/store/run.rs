@@ -98,17 +98,18 @@ impl<'a> Sides<'a> {
     }
 
     fn call(&mut self, lent: &mut Lent, call: &Call) -> Result<(), String> {
-        let (said, asked, within) = match &mut self.book {
+        let (said, within) = match &mut self.book {
             Ok(book) => {
                 let generation = book.generation();
                 let said = book.answer(call);
                 self.counts.add(MOVES, (book.generation() != generation).into());
                 let within = within(book, &said);
-                (said, book.active_bank().is_some(), within)
+                (said, within)
             }
-            Err(_) => (call.refused(6), false, false),
+            Err(_) => (call.refused(6), false),
         };
-        self.counts.called(call, &said, asked);
+        let bank = self.book.as_ref().ok().and_then(Book::active_bank);
+        self.counts.called(call, &said, bank);
         let changes = call.changes(&said);
         if changes {
             self.keep();

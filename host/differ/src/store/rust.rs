@@ -63,13 +63,13 @@ impl<'a> Rust<'a> {
     }
 
     /// What a call answers that 01's domain has. The active slot is to be Valid, but for a whole
-    /// image; no bank that is to be written is over its size.
+    /// image; no bank that is to be written is over its size. A barrel insert is to be accepted.
     pub fn answer(&mut self, call: &Call) -> Result<Answer, String> {
         guarded(|| match call.what {
             What::Commit(way, room) => self.commit(call, way, room),
             What::Whole(room) => self.whole(room),
             What::Figures => self.figures(),
-            What::Insert(_) | What::Remove => {
+            What::Insert(..) | What::Remove => {
                 edit(&mut self.store, call);
                 self.done.push(call.clone());
                 Ok(Answer::Number(0))
@@ -185,11 +185,11 @@ fn refusal(bank: &v3::Partition) -> Result<u32, String> {
     })
 }
 
-/// An insert or a remove.
+/// An insert or a remove. It has one insert for both manners.
 fn edit(store: &mut v3::Nvram, call: &Call) {
     let bank = store.active_part_mut();
     match &call.what {
-        What::Insert(value) => {
+        What::Insert(_, value) => {
             bank.insert_variable(&call.key, Cow::Owned(value.clone()), typ(call))
         }
         _ => bank.remove_variable(&call.key, typ(call)),
@@ -241,8 +241,7 @@ mod tests {
         let mut rust = Rust::open(&image).unwrap().unwrap();
         assert_eq!(rust.answer(&Call::figures()), Ok(Answer::Figures(0, [50, 0, 1])));
         for typ in [1, 0] {
-            let insert = Call::new(What::Insert(b"x".to_vec()), b"rate", typ);
-            rust.answer(&insert).unwrap();
+            rust.answer(&Call::insert(b"rate", b"x", typ)).unwrap();
         }
         assert_eq!(rust.answer(&Call::figures()), Ok(Answer::Figures(0, [42, 42, 3])));
     }
@@ -252,7 +251,7 @@ mod tests {
         let header = Header { common_limit: u32::MAX, ..Header::default() };
         let image = [image::bank(&header, &[]), held()].concat();
         let mut rust = Rust::open(&image).unwrap().unwrap();
-        let insert = |len| Call::new(What::Insert(vec![7; len]), b"k", 0);
+        let insert = |len| Call::insert(b"k", &vec![7; len], 0);
         let [old, careful] = [Call::commit(BANK), Call::careful(BANK)];
         // It has moved once, and goes on with one record live and one dead.
         for call in [insert(60_000), insert(60_000), careful.clone(), insert(BANK)] {
@@ -278,8 +277,7 @@ mod tests {
         assert_eq!(rust.answer(&lookup), Ok(Answer::Lookup(0, [1, place, 9])));
         let common = Call::new(What::Lookup, b"rate", 0);
         assert_eq!(rust.answer(&common), Ok(Answer::Lookup(0, [0; 3])));
-        let insert = Call::new(What::Insert(b"x".to_vec()), b"rate", 1);
-        rust.answer(&insert).unwrap();
+        rust.answer(&Call::insert(b"rate", b"x", 1)).unwrap();
         let place = (PART + 74 + 36 + 5) as u64;
         assert_eq!(rust.answer(&lookup), Ok(Answer::Lookup(0, [1, place, 1])));
     }

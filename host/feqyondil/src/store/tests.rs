@@ -5,13 +5,20 @@ use std::vec::Vec;
 
 use super::VarType::{Common, System};
 use super::*;
-use crate::{Kind, BANKS_MAX, BANK_SIZE, PART_SIZE};
+use crate::{Kind, BANKS_MAX, BANK_SIZE, BARREL_VALUE_MAX, PART_SIZE};
 
 /// A bank of 0xFF but for a header of size 65,536 and generation 1.
 fn image() -> Vec<u8> {
     let mut image = vec![0xFF; BANK_SIZE];
     image[..16].copy_from_slice(b"3VVN\0\0\x01\0\x01\0\0\0\0\0\x01\0");
     image
+}
+
+/// One whose active bank, the first, isn't Valid.
+fn without_active() -> Vec<u8> {
+    let mut old = image();
+    old[8] = 0; // the generation
+    [vec![0; BANK_SIZE], old].concat()
 }
 
 /// A work area for this many banks.
@@ -32,6 +39,51 @@ fn a_value_comes_back_until_it_is_removed() {
     assert_eq!(store.get(b"rate", System), Ok(Some(&b""[..])));
     store.remove(b"rate", System).unwrap();
     assert_eq!(store.get(b"rate", System), Ok(None));
+}
+
+#[test]
+fn a_barrel_value_has_512_bytes_at_most() {
+    let mut work = work(1);
+    let mut store = Store::open(&image(), &mut work).unwrap();
+    let long = [7; BARREL_VALUE_MAX + 1];
+    for value in [&long[..511], &long[..512]] {
+        store.barrel_insert(b"tune", value, Common).unwrap();
+        assert_eq!(store.get(b"tune", Common), Ok(Some(value)));
+    }
+    let before = (*store.state(), store.work().to_vec());
+    assert_eq!(store.barrel_insert(b"tune", &long, Common), Err(Refusal::ValueLong));
+    assert_eq!((store.state(), store.work()), (&before.0, &before.1[..]));
+    store.insert(b"tune", &long, Common).unwrap();
+    assert_eq!(store.get(b"tune", Common), Ok(Some(&long[..])));
+}
+
+#[test]
+fn a_long_barrel_value_is_refused_after_7_and_before_8() {
+    let (mut first, mut second) = (work(2), work(1));
+    let long = [7; BARREL_VALUE_MAX + 1];
+    let mut store = Store::open(&without_active(), &mut first).unwrap();
+    assert_eq!(store.barrel_insert(b"", &long, Common), Err(Refusal::NotValid));
+    let mut store = Store::open(&image(), &mut second).unwrap();
+    store.insert(b"", &vec![7; PART_SIZE - 24 - 37], Common).unwrap();
+    assert_eq!(store.barrel_insert(b"", &long, Common), Err(Refusal::ValueLong));
+    assert_eq!(store.barrel_insert(b"", &long[1..], Common), Err(Refusal::Full));
+    assert_eq!(store.insert(b"", &long, Common), Err(Refusal::Full));
+}
+
+#[test]
+fn either_insert_takes_the_place_of_the_others_value() {
+    type Insert<'a> = fn(&mut Store<'a>, &[u8], &[u8], VarType) -> Result<(), Refusal>;
+    let mut work = work(1);
+    let mut store = Store::open(&image(), &mut work).unwrap();
+    let [plain, barrel]: [Insert; 2] = [Store::insert, Store::barrel_insert];
+    for (first, second) in [(plain, barrel), (barrel, plain)] {
+        first(&mut store, b"tune", b"1", Common).unwrap();
+        second(&mut store, b"tune", b"2", Common).unwrap();
+        assert_eq!(store.get(b"tune", Common), Ok(Some(&b"2"[..])));
+        assert_eq!(store.figures().unwrap().common, 42);
+        store.remove(b"tune", Common).unwrap();
+        assert_eq!(store.figures().unwrap().common, 0);
+    }
 }
 
 #[test]
@@ -181,9 +233,7 @@ fn refusals_are_told() {
     assert_eq!(refused(&long, 0), Some(Refusal::ImageLong));
     assert_eq!(refused(&image(), 131_071), Some(Refusal::WorkShort));
     assert_eq!(refused(&long[1..], 16 * PART_SIZE), Some(Refusal::NoValid));
-    let mut old = image();
-    old[8] = 0; // the generation
-    let invalid_first = [vec![0; BANK_SIZE], old].concat();
+    let invalid_first = without_active();
     let mut output = vec![0; BANK_SIZE];
     let mut store = Store::open(&invalid_first, &mut lent).unwrap();
     assert_eq!(store.remove(b"", Common), Err(Refusal::NotValid));

@@ -114,10 +114,8 @@ impl Device {
         let Some(room) = self.room() else {
             return Ok(());
         };
-        for what in [What::Insert(vec![0; room]), What::Remove] {
-            self.ask(&Call::new(what, SPARE, 1))?;
-        }
-        Ok(())
+        self.ask(&Call::insert(SPARE, &vec![0; room], 1))?;
+        self.ask(&Call::new(What::Remove, SPARE, 1))
     }
 
     /// A commit; `None` where it is refused, and then the store is opened anew.

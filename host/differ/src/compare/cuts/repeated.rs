@@ -10,7 +10,7 @@ use crate::store::lent::Port;
 
 /// How a store goes on after a cut.
 #[derive(Clone, Copy, Debug, PartialEq)]
-pub enum Manner {
+pub enum GoesOn {
     /// With the next commit as it comes, which is known to lose something at times.
     StraightOn,
     /// With a move, where something is written behind the records; it is to lose nothing.
@@ -20,7 +20,7 @@ pub enum Manner {
 /// A plan with its cuts. It ends with the first loss.
 pub struct Repeated {
     pub port: Port,
-    pub manner: Manner,
+    pub goes_on: GoesOn,
 }
 
 #[derive(Clone, Copy, Debug, Default, PartialEq)]
@@ -40,9 +40,9 @@ impl Comparison for Repeated {
     const NAME: &'static str = "cuts";
 
     fn parts(&self, mode: Mode) -> Vec<Part<Plan>> {
-        let (name, count) = match self.manner {
-            Manner::StraightOn => ("going straight on", mode.pick(200, 11_000, 0)),
-            Manner::MoveFirst => ("moving first", mode.pick(350, 35_000, 0)),
+        let (name, count) = match self.goes_on {
+            GoesOn::StraightOn => ("going straight on", mode.pick(200, 11_000, 0)),
+            GoesOn::MoveFirst => ("moving first", mode.pick(350, 35_000, 0)),
         };
         vec![Part::drawn(name, count, plan())]
     }
@@ -50,7 +50,7 @@ impl Comparison for Repeated {
     fn compare(&self, plan: &Plan) -> Result<Numbers, String> {
         let mut count = Count::default();
         let done = self.go(plan, &mut count);
-        let known = self.manner == Manner::StraightOn && count.cuts_lost + count.finished_lost > 0;
+        let known = self.goes_on == GoesOn::StraightOn && count.cuts_lost + count.finished_lost > 0;
         if !known {
             done?;
         }
@@ -76,7 +76,7 @@ impl Repeated {
             return Ok(());
         };
         let done = device.go(plan, |device, action| {
-            if self.manner == Manner::MoveFirst {
+            if self.goes_on == GoesOn::MoveFirst {
                 device.move_first()?;
             }
             commit(device, action, count)

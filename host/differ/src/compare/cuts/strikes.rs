@@ -5,7 +5,7 @@ use image::{Header, BANK};
 use super::device::{Commit, Device};
 use super::single::{finish, Cuts};
 use crate::judge::{Comparison, Mode, Numbers, Part};
-use crate::store::lent::call::{Call, What};
+use crate::store::lent::call::Call;
 use crate::store::lent::Port;
 
 const KEY: &[u8] = b"strikes";
@@ -63,8 +63,7 @@ pub fn struck(port: Port, strike: Strike) -> Result<(Device, Commit), String> {
 }
 
 fn insert(device: &mut Device, count: u32) -> Result<Commit, String> {
-    let insert = What::Insert(count.to_le_bytes().to_vec());
-    device.ask(&Call::new(insert, KEY, SYSTEM))?;
+    device.ask(&Call::insert(KEY, &count.to_le_bytes(), SYSTEM))?;
     let commit = device.commit()?;
     commit.ok_or_else(|| format!("the count {count} is refused"))
 }

@@ -2,7 +2,7 @@
 
 use image::{number, Record, BANK};
 
-use super::repeated::{self, Manner, Repeated};
+use super::repeated::{self, GoesOn, Repeated};
 use super::single::{self, Count, Single};
 use super::steps::{Order, DOWNWARD, UPWARD};
 use super::strikes::{formatted, struck, Strike};
@@ -10,7 +10,7 @@ use crate::describe::image::Image;
 use crate::describe::{plan, Action, Call, Plan};
 use crate::judge::{Comparison, Judge, Mode, Part};
 use crate::store::book::PART;
-use crate::store::lent::call::{self, What};
+use crate::store::lent::call;
 use crate::store::lent::port::{Done, Port};
 use crate::store::lent::state::{State, VALID};
 
@@ -90,7 +90,7 @@ fn all_usable(done: &mut Done) {
 #[test]
 fn bytes_of_a_cut_write_taken_as_usable_are_found() {
     let port = Port { fault: Some(all_usable), ..Port::default() };
-    let repeated = Repeated { port, manner: Manner::MoveFirst };
+    let repeated = Repeated { port, goes_on: GoesOn::MoveFirst };
     let inputs = Part::drawn("", 2_000, plan()).inputs;
     let found = Judge::new(Mode::Short, 1).part(&repeated, "", inputs);
     let found = found.expect_err("a difference");
@@ -100,8 +100,7 @@ fn bytes_of_a_cut_write_taken_as_usable_are_found() {
 }
 
 fn insert(key: &[u8], value: &[u8]) -> Action {
-    let insert = What::Insert(value.to_vec());
-    Action::Edit(Call::Made(call::Call::new(insert, key, 1)))
+    Action::Edit(Call::Made(call::Call::insert(key, value, 1)))
 }
 
 /// A commit cut at this cut point.
@@ -114,9 +113,9 @@ fn needs_move(actions: Vec<Action>) {
     let image = Image::of(&[formatted(1), vec![0xFF; BANK]].concat());
     let plan = Plan { actions, image };
     let mut counts = [repeated::Count::default(); 2];
-    let go = |manner, count: &mut _| Repeated { port: Port::default(), manner }.go(&plan, count);
-    assert!(go(Manner::StraightOn, &mut counts[0]).is_err());
-    go(Manner::MoveFirst, &mut counts[1]).unwrap();
+    let go = |goes_on, count: &mut _| Repeated { port: Port::default(), goes_on }.go(&plan, count);
+    assert!(go(GoesOn::StraightOn, &mut counts[0]).is_err());
+    go(GoesOn::MoveFirst, &mut counts[1]).unwrap();
     let commits = plan.actions.iter().filter(|a| **a == Action::Commit);
     let finished = commits.count() as u64;
     let lost = counts.map(|c| (c.cuts, c.finished, c.finished_lost));

@@ -6,7 +6,7 @@ use image::{is_erased, number, put_number, BANK, RECORD};
 use super::{found, has};
 use crate::compare::any_state::AnyState;
 use crate::compare::banks::{self, Banks};
-use crate::compare::cuts::{Manner, Repeated};
+use crate::compare::cuts::{GoesOn, Repeated};
 use crate::compare::runs::Runs;
 use crate::compare::settings::{self, Settings};
 use crate::describe::{case, pair, plan, run, Style};
@@ -56,7 +56,7 @@ fn faults_are_found_in_the_naming_of_causes() {
 #[test]
 fn a_cause_is_asked_of_every_bank_that_is_made() {
     let port = Port { cause: index_from_1, ..Port::default() };
-    let repeated = Repeated { port, manner: Manner::StraightOn };
+    let repeated = Repeated { port, goes_on: GoesOn::StraightOn };
     let settings = Settings { port: settings::port, cause: index_from_1 };
     let told = [
         found(&settings, pair(false)).why,

@@ -82,7 +82,7 @@ pub fn kills_one(done: &mut Done) {
 }
 
 pub fn full_early(done: &mut Done) {
-    let inserted = matches!(done.call.map(|call| &call.what), Some(What::Insert(_)));
+    let inserted = matches!(done.call.map(|call| &call.what), Some(What::Insert(..)));
     let told = state(done.state);
     let entry = told.entries.get(told.active as usize);
     if inserted && entry.is_some_and(|entry| entry.total as usize == PART) {

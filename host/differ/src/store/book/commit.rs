@@ -112,7 +112,7 @@ impl Bank {
 mod tests {
     use super::super::bank::PART;
     use super::*;
-    use crate::store::lent::call::{What, ROOM};
+    use crate::store::lent::call::ROOM;
     use image::{Header, Record};
 
     /// A bank of this size and generation, with a live record of 39 bytes and a dead one.
@@ -127,7 +127,7 @@ mod tests {
     }
 
     fn insert(book: &mut Book, len: usize, typ: u32) {
-        let call = Call::new(What::Insert(vec![1; len]), b"new", typ);
+        let call = Call::insert(b"new", &vec![1; len], typ);
         assert_eq!(book.answer(&call), Answer::Number(0));
     }
 

@@ -1,12 +1,15 @@
-//! Inserts, removes and lookups, by 'Edits and lookups' and 'Refusals' in 01.
+//! Inserts, removes and lookups, by 'Edits and lookups' and 'Refusals' in 01, and by N5 of the
+//! change requests (02).
 
 use image::{Record, COMMON_GUID, HEADER, RECORD, SYSTEM_GUID};
 
 use super::bank::{size, Bank, LIVE, PART};
 use super::list::Book;
-use crate::store::lent::call::{Answer, Call, What};
+use crate::store::lent::call::{Answer, Call, Manner, What};
 
 const DEAD: u8 = 0x7C;
+/// What the barrel controller has for a value.
+const BARREL_VALUE: usize = 512;
 
 impl Book {
     pub fn edit(&mut self, call: &Call) -> Answer {
@@ -14,13 +17,15 @@ impl Book {
             return call.refused(7);
         };
         match &call.what {
-            What::Insert(value) => {
-                let record = fresh(call, value);
-                if bank.total() + size(&record) > PART {
+            What::Insert(manner, value) => {
+                if *manner == Manner::Barrel && value.len() > BARREL_VALUE {
+                    return call.refused(15);
+                }
+                if !bank.has_room(call, value) {
                     return call.refused(8);
                 }
                 bank.kill(call);
-                bank.records.push(record);
+                bank.records.push(fresh(call, value));
             }
             _ => bank.kill(call),
         }
@@ -43,6 +48,11 @@ impl Book {
 }
 
 impl Bank {
+    /// There is room in the work area for the record that an insert of this value appends.
+    pub fn has_room(&self, call: &Call, value: &[u8]) -> bool {
+        self.total() + size(&fresh(call, value)) <= PART
+    }
+
     fn kill(&mut self, call: &Call) {
         let live = self.records.iter_mut().filter(|r| matches(r, call));
         live.for_each(|record| record.state = DEAD);
@@ -89,7 +99,7 @@ mod tests {
         let lookup = call(What::Lookup);
         assert_eq!(book.answer(&lookup), Answer::Lookup(0, [1, place, 1]));
         let room = PART - 24 - 2 * 39;
-        let insert = |len| call(What::Insert(vec![0; len]));
+        let insert = |len| Call::insert(b"k", &vec![0; len], 1);
         assert_eq!(book.answer(&insert(room - 37)), Answer::Number(8));
         assert_eq!(book.answer(&insert(room - 38)), Answer::Number(0));
         let place = place + 2 * 39;
@@ -101,5 +111,43 @@ mod tests {
         assert_eq!(states.collect::<Vec<_>>(), [DEAD; 3]);
         let mut other = opened(&[0xFF; BANK], 0);
         assert_eq!(other.answer(&lookup), Answer::Lookup(7, [0; 3]));
+    }
+
+    #[test]
+    fn a_barrel_insert_is_the_clocks_but_for_long_values() {
+        let barrel = |len| Call::barrel(b"k", &vec![0; len], 1);
+        let insert = |len| Call::insert(b"k", &vec![0; len], 1);
+        let mut both = [opened(&[], 1), opened(&[], 1)];
+        for len in [0, 511, 512] {
+            let answers = [both[0].answer(&barrel(len)), both[1].answer(&insert(len))];
+            assert_eq!(answers, [Answer::Number(0), Answer::Number(0)]);
+            assert_eq!(both[0], both[1]);
+        }
+        let [book, before] = &mut both;
+        assert_eq!(book.answer(&barrel(513)), Answer::Number(15));
+        assert_eq!(book, before);
+        assert_eq!(book.answer(&insert(513)), Answer::Number(0));
+        let mut other = opened(&[0xFF; BANK], 0);
+        assert_eq!(other.answer(&barrel(513)), Answer::Number(7));
+    }
+
+    #[test]
+    fn a_long_barrel_value_is_refused_before_a_full_work_area() {
+        let mut book = opened(&[], 1);
+        // What is left is room for a value of 512 bytes, less one.
+        let left = RECORD + 2 + 512 - 1;
+        let filling = PART - 24 - 2 * 39 - RECORD - 2 - left;
+        let numbers = [
+            (Call::insert(b"f", &vec![0; filling], 1), 0),
+            (Call::barrel(b"k", &[0; 513], 1), 15),
+            (Call::barrel(b"k", &[0; 512], 1), 8),
+            (Call::insert(b"k", &[0; 513], 1), 8),
+            (Call::barrel(b"k", &[0; 511], 1), 0),
+            (Call::barrel(b"k", &[0; 513], 1), 15),
+            (Call::barrel(b"k", b"", 1), 8),
+        ];
+        for (call, number) in numbers {
+            assert_eq!(book.answer(&call), Answer::Number(number), "{call}");
+        }
     }
 }

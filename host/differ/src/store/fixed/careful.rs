@@ -5,12 +5,10 @@ use image::{BANK, RECORD};
 
 use super::pieces::{
     dead_past_size, ending, fill_and, get, held, put, remove, unlimited, value, whole, Named,
+    Numbered,
 };
 use crate::store::lent::call::Call;
 use crate::store::run::Run;
-
-/// A run, and what its commits answer.
-type Numbered = (Named, &'static [u32]);
 
 /// Those that the Rust can be asked.
 pub fn list() -> Vec<Named> {
@@ -138,25 +136,16 @@ fn careful() -> Call {
 
 #[cfg(test)]
 mod tests {
+    use super::super::told::{counted, hold};
     use super::*;
-    use crate::store::lent::call::Answer;
-    use crate::store::lent::Port;
-    use crate::store::run::compare;
+    use crate::store::lent::call::CAREFUL;
     use crate::store::run::counts::{ACCEPTED_PAIRS, ERASES, PAIRS, RUST_CALLED};
     use crate::store::run::wear::Pair;
 
     #[test]
     fn the_runs_answer_what_is_told() {
         let all = [in_place(), moves(), over(), limits(), sizes(), order()].concat();
-        for ((name, run), told) in all {
-            let mut book = run.opened().unwrap();
-            let answers = run.calls.iter().map(|call| book.answer(call));
-            let numbers = answers.filter_map(|answer| match answer {
-                Answer::Commit(number, ..) => Some(number),
-                _ => None,
-            });
-            assert_eq!(numbers.collect::<Vec<_>>(), told, "{name}");
-        }
+        hold(all, &["commits", CAREFUL]);
     }
 
     /// Between two erase requests the value that was refused is inserted, in every bank once: no
@@ -164,8 +153,7 @@ mod tests {
     #[test]
     fn a_12_between_two_requests_meets_n4s_bound_exactly() {
         for (name, banks) in [("careful-over-alone", 1), ("careful-over-before-valid", 2)] {
-            let (_, run) = list().into_iter().find(|(found, _)| *found == name).unwrap();
-            let counts = compare(&run, Port::default()).unwrap();
+            let (run, counts) = counted(list(), name);
             let inserted = banks * (65_536 - 74 + 1);
             assert_eq!(counts.fewest, Some(Pair { inserted, banks, size: 65_536, most: 74 }));
             let of = |name| counts.others.of(name);

@@ -36,11 +36,11 @@ impl Edge {
             last.copy_from_slice(&image::bank(&Header::default(), &[record]));
         }
         let lookup = Call::new(What::Lookup, b"rate", 1);
-        let insert = Call::new(What::Insert(b"x".to_vec()), b"rate", 1);
+        let inserts = [Call::insert(b"rate", b"x", 1), Call::barrel(b"rate", &[b'x'; 513], 1)];
         let commits = [Call::commit(BANK), Call::careful(BANK)];
         let whole = Call::whole(self.banks * BANK);
-        let calls = [lookup.clone(), insert, lookup, Call::figures()];
-        let mut run = Run::new(image, calls.into_iter().chain(commits).chain([whole]).collect());
+        let calls = [lookup.clone()].into_iter().chain(inserts).chain([lookup, Call::figures()]);
+        let mut run = Run::new(image, calls.chain(commits).chain([whole]).collect());
         run.spare = self.spare;
         run
     }

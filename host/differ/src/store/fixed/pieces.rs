@@ -7,6 +7,8 @@ use crate::store::lent::call::{Call, What};
 use crate::store::run::Run;
 
 pub type Named = (&'static str, Run);
+/// A run, and what those of its calls answer that it is made for.
+pub type Numbered = (Named, &'static [u32]);
 
 /// Room for every value of the list.
 const ROOM: usize = PART;
@@ -44,7 +46,7 @@ pub fn fill_and(more: usize) -> Call {
 }
 
 pub fn put(key: &[u8], value: &[u8], typ: u32) -> Call {
-    Call::new(What::Insert(value.to_vec()), key, typ)
+    Call::insert(key, value, typ)
 }
 
 pub fn remove(key: &[u8], typ: u32) -> Call {

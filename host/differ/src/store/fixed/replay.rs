@@ -6,7 +6,7 @@ use std::fmt::Write;
 use image::BANK;
 
 use super::pieces::Named;
-use crate::store::lent::call::{Answer, Call, Way, What};
+use crate::store::lent::call::{Answer, Call, Manner, Way, What};
 use crate::store::run::domain::within;
 use crate::store::run::flash::erase;
 use crate::store::run::Run;
@@ -19,7 +19,8 @@ const HEAD: &str = "\
 # are in it: it has no work area, no state and no refusals but those of an image and of a commit
 # (9, 10, 12). State and work area are those that its records amount to (header, records as
 # written, 0xFF behind them), the tally is the count of its erase requests. A careful commit is
-# asked of a copy of its store where it refuses with 12, since it has moved by then.
+# asked of a copy of its store where it refuses with 12, since it has moved by then. A barrel
+# insert is asked of it as an insert.
 #
 # A line is a letter and fields, one space between. Numbers are decimal; bytes and checksums
 # (CRC-32, eight digits) are hexadecimal, `-` for no bytes. A line with # is for the reader.
@@ -28,6 +29,7 @@ const HEAD: &str = "\
 #   T COUNT FILL BYTES COUNT bytes behind the banks, as a bank's; the image is complete
 #   O NUMBER           the opening's answer, with 131,072 bytes of work area for each bank
 #   I TYPE KEY COUNT BYTES NUMBER       insert; the value is the bytes COUNT times
+#   J TYPE KEY COUNT BYTES NUMBER       barrel insert, as above
 #   D TYPE KEY NUMBER                   remove
 #   L TYPE KEY NUMBER FOUND PLACE LENGTH
 #   V TYPE KEY LENGTH CRC               the value itself
@@ -98,9 +100,10 @@ fn answers(run: &Run) -> Result<String, String> {
 fn line(call: &Call, answer: &Answer) -> Result<String, String> {
     let named = format!("{} {}", call.typ, bytes(&call.key));
     Ok(match (&call.what, answer) {
-        (What::Insert(value), Answer::Number(number)) => {
+        (What::Insert(manner, value), Answer::Number(number)) => {
+            let letter = if *manner == Manner::Barrel { "J" } else { "I" };
             let value = repeated(value);
-            format!("I {named} {value} {number}\n")
+            format!("{letter} {named} {value} {number}\n")
         }
         (What::Remove, Answer::Number(number)) => format!("D {named} {number}\n"),
         (What::Lookup, Answer::Lookup(number, [found, place, length])) => {

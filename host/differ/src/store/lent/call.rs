@@ -9,8 +9,9 @@ pub const ROOM: u8 = 0xA5;
 /// What a commit asks: whether to erase and where, where to write and how many bytes.
 pub type Asked = [u64; 4];
 pub const NO_REQUEST: Asked = [0; 4];
-/// What careful commits are called.
+/// What careful commits and barrel inserts are called.
 pub const CAREFUL: &str = "careful commits";
+pub const BARREL: &str = "barrel inserts";
 
 /// A call on an opened store.
 #[derive(Clone, Debug, PartialEq)]
@@ -25,7 +26,7 @@ pub struct Call {
 #[derive(Clone, Debug, PartialEq)]
 pub enum What {
     /// With the value.
-    Insert(Vec<u8>),
+    Insert(Manner, Vec<u8>),
     Remove,
     Lookup,
     /// With the room for the value.
@@ -35,6 +36,15 @@ pub enum What {
     Commit(Way, usize),
     /// The same.
     Whole(usize),
+}
+
+/// Which insert it is.
+#[derive(Clone, Copy, Debug, PartialEq)]
+pub enum Manner {
+    /// The clock's, as 01 says.
+    Plain,
+    /// The barrels', as N5 says: refused with 15 where the value is too long.
+    Barrel,
 }
 
 /// Which commit it is.
@@ -50,7 +60,8 @@ impl What {
     /// What its calls are called.
     pub fn name(&self) -> &'static str {
         match self {
-            What::Insert(_) => "inserts",
+            What::Insert(Manner::Plain, _) => "inserts",
+            What::Insert(Manner::Barrel, _) => BARREL,
             What::Remove => "removes",
             What::Lookup => "lookups",
             What::Value(_) => "values",
@@ -85,6 +96,14 @@ impl Call {
         Call { what, key, typ }
     }
 
+    pub fn insert(key: &[u8], value: &[u8], typ: u32) -> Self {
+        Call::new(What::Insert(Manner::Plain, value.to_vec()), key, typ)
+    }
+
+    pub fn barrel(key: &[u8], value: &[u8], typ: u32) -> Self {
+        Call::new(What::Insert(Manner::Barrel, value.to_vec()), key, typ)
+    }
+
     pub fn figures() -> Self {
         Call::new(What::Figures, b"", 0)
     }
@@ -104,7 +123,7 @@ impl Call {
     /// Neither a value nor anything else was found, or the call was refused.
     pub fn refused(&self, number: u32) -> Answer {
         match self.what {
-            What::Insert(_) | What::Remove => Answer::Number(number),
+            What::Insert(..) | What::Remove => Answer::Number(number),
             What::Lookup => Answer::Lookup(number, [0; 3]),
             What::Value(room) => Answer::Value(0, vec![ROOM; room]),
             What::Figures => Answer::Figures(number, [0; 3]),
@@ -193,7 +212,8 @@ impl Display for Call {
             }
             What::Whole(room) => return write!(f, "whole image with room for {room}"),
             What::Figures => return write!(f, "figures"),
-            What::Insert(value) => write!(f, "insert of {}", hex(value))?,
+            What::Insert(Manner::Plain, value) => write!(f, "insert of {}", hex(value))?,
+            What::Insert(Manner::Barrel, value) => write!(f, "barrel insert of {}", hex(value))?,
             What::Remove => write!(f, "remove")?,
             What::Lookup => write!(f, "lookup")?,
             What::Value(room) => write!(f, "value with room for {room}")?,
@@ -268,10 +288,11 @@ mod tests {
 
     #[test]
     fn calls_are_printed() {
-        let call = Call::new(What::Insert(vec![1; 40]), b"", 9);
-        let text = call.to_string();
+        let text = Call::insert(b"", &[1; 40], 9).to_string();
         assert!(text.starts_with("insert of 0101"), "{text}");
         assert!(text.ends_with(".. of 40 bytes, key -, type 9"), "{text}");
+        let text = Call::barrel(b"k", &[1], 0).to_string();
+        assert_eq!(text, "barrel insert of 01, key 6b, type 0");
         let commits = [Call::commit(7), Call::careful(7)].map(|call| call.to_string());
         assert_eq!(commits, ["commit with room for 7", "careful commit with room for 7"]);
     }

@@ -1,6 +1,6 @@
 //! The port's calls on lent buffers, and what they are to leave alone.
 
-use super::call::{Answer, Call, Way, What, ROOM};
+use super::call::{Answer, Call, Manner, Way, What, ROOM};
 use crate::partition::cause::{compare_all, Causes, PortCause};
 
 /// Bytes before and after a buffer that nobody lent.
@@ -121,9 +121,13 @@ impl Lent {
         let (state, work) = (self.state.bytes_mut(), self.work.bytes_mut());
         let (lent_key, typ) = (key.bytes(), call.typ);
         let answer = match &call.what {
-            What::Insert(value) => {
+            What::Insert(manner, value) => {
+                let insert = match manner {
+                    Manner::Plain => feqyondil::lent::insert,
+                    Manner::Barrel => feqyondil::lent::barrel_insert,
+                };
                 let lent = Buffer::new(value, self.standing);
-                let number = feqyondil::lent::insert(state, work, lent_key, lent.bytes(), typ);
+                let number = insert(state, work, lent_key, lent.bytes(), typ);
                 self.untouched(&[(&lent, value)])?;
                 Answer::Number(number)
             }

@@ -6,8 +6,8 @@ use std::ops::AddAssign;
 
 use super::wear::Pair;
 use crate::partition::cause::Causes;
-use crate::store::book::Book;
-use crate::store::lent::call::{Answer, Call, CAREFUL};
+use crate::store::book::{Bank, Book};
+use crate::store::lent::call::{Answer, Call, Manner, What, BARREL, CAREFUL};
 
 pub const BANKS: &str = "banks";
 /// Lookups and values that found something.
@@ -16,6 +16,14 @@ pub const FOUND: &str = "found";
 pub const MOVES: &str = "moves";
 /// Commits that were accepted right after a careful one that was refused with 12.
 pub const AFTER_12: &str = "accepted after 12";
+/// Barrel inserts on a Valid bank with values about the longest, and those refused with 15 where
+/// the bank has no room for the record either.
+pub const ABOUT_512: [(usize, &str); 3] = [
+    (511, "barrel inserts of 511 bytes"),
+    (512, "barrel inserts of 512 bytes"),
+    (513, "barrel inserts of 513 bytes"),
+];
+pub const WITHOUT_ROOM: &str = "barrel inserts with 15 and without room";
 pub const ERASES: &str = "erase requests";
 /// Of erase requests for one bank, that 01's bound asks something of, and N4's.
 pub const PAIRS: &str = "pairs of requests";
@@ -32,8 +40,8 @@ pub struct Counts {
     /// By their number; a value tells none, and is not among the calls here.
     pub openings: By<u32>,
     pub numbers: By<u32>,
-    /// The careful commits among them.
-    pub careful: By<u32>,
+    /// The same by their kind too.
+    pub kinds: By<(&'static str, u32)>,
     /// Calls by their kind, and what is named above.
     pub others: By<&'static str>,
     /// Of the banks of every opening and reopening.
@@ -65,6 +73,14 @@ impl<K: Ord> By<K> {
     }
 }
 
+impl By<u32> {
+    /// The refusals among these numbers, in words.
+    fn refused(&self) -> String {
+        let refused = self.0.iter().filter(|(number, _)| **number > 0);
+        refused.map(|(number, count)| format!(", {count} refused with {number}")).collect()
+    }
+}
+
 impl Counts {
     pub fn opened(book: &Result<Book, u32>) -> Self {
         let mut counts = Counts::default();
@@ -77,12 +93,12 @@ impl Counts {
         self.others.add(name, more);
     }
 
-    /// Counts a call; `asked` where the active bank is Valid.
-    pub fn called(&mut self, call: &Call, answer: &Answer, asked: bool) {
+    /// Counts a call, with the active bank after it where that is Valid.
+    pub fn called(&mut self, call: &Call, answer: &Answer, bank: Option<&Bank>) {
         self.add(call.what.name(), 1);
         let number = match *answer {
             Answer::Value(length, _) => {
-                self.add(FOUND, u64::from(asked && length > 0));
+                self.add(FOUND, u64::from(bank.is_some() && length > 0));
                 return;
             }
             Answer::Lookup(number, [found, ..]) => {
@@ -98,9 +114,19 @@ impl Counts {
             }
         };
         self.numbers.add(number, 1);
-        if call.what.name() == CAREFUL {
-            self.careful.add(number, 1);
+        self.kinds.add((call.what.name(), number), 1);
+        if let (What::Insert(Manner::Barrel, value), Some(bank)) = (&call.what, bank) {
+            let about = ABOUT_512.iter().find(|(len, _)| *len == value.len());
+            about.into_iter().for_each(|&(_, name)| self.add(name, 1));
+            let without_room = number == 15 && !bank.has_room(call, value);
+            self.add(WITHOUT_ROOM, without_room.into());
         }
+    }
+
+    /// The numbers of one kind of call.
+    pub fn of_kind(&self, name: &str) -> By<u32> {
+        let kinds = self.kinds.0.iter().filter(|((kind, _), _)| *kind == name);
+        By(kinds.map(|((_, number), count)| (*number, *count)).collect())
     }
 
     pub fn runs(&self) -> u64 {
@@ -112,7 +138,7 @@ impl AddAssign for Counts {
     fn add_assign(&mut self, more: Counts) {
         self.openings.add_all(more.openings);
         self.numbers.add_all(more.numbers);
-        self.careful.add_all(more.careful);
+        self.kinds.add_all(more.kinds);
         self.others.add_all(more.others);
         self.causes += more.causes;
         self.fewest = self.fewest.into_iter().chain(more.fewest).min();
@@ -121,16 +147,12 @@ impl AddAssign for Counts {
 
 impl Display for Counts {
     fn fmt(&self, f: &mut Formatter) -> fmt::Result {
-        let refused = |numbers: &By<u32>| -> String {
-            let refused = numbers.0.iter().filter(|(number, _)| **number > 0);
-            refused.map(|(number, count)| format!(", {count} refused with {number}")).collect()
-        };
-        write!(f, "{} openings{}; ", self.runs(), refused(&self.openings))?;
-        write!(f, "{} calls with a number{}", self.numbers.all(), refused(&self.numbers))?;
+        write!(f, "{} openings{}; ", self.runs(), self.openings.refused())?;
+        write!(f, "{} calls with a number{}", self.numbers.all(), self.numbers.refused())?;
         for (name, count) in self.others.0.iter().filter(|(_, count)| **count > 0) {
             write!(f, "; {count} {name}")?;
-            if *name == CAREFUL {
-                write!(f, "{}", refused(&self.careful))?;
+            if [CAREFUL, BARREL].contains(name) {
+                write!(f, "{}", self.of_kind(name).refused())?;
             }
         }
         let causes = self.causes.numbers().into_iter().filter(|(_, count)| *count > 0);
@@ -145,20 +167,43 @@ impl Display for Counts {
 #[cfg(test)]
 mod tests {
     use super::*;
-    use crate::store::lent::call::What;
+    use crate::store::book::PART;
+    use image::Header;
+
+    fn book() -> Book {
+        Book::open(&image::bank(&Header::default(), &[]), PART).unwrap()
+    }
 
     #[test]
     fn calls_are_counted_by_what_became_of_them() {
-        let mut counts = Counts::opened(&Err(4));
+        let (mut counts, book) = (Counts::opened(&Err(4)), book());
         let lookup = Call::new(What::Lookup, b"", 0);
-        counts.called(&lookup, &lookup.refused(6), false);
-        counts.called(&lookup, &lookup.found(1, b"a"), true);
+        counts.called(&lookup, &lookup.refused(6), None);
+        counts.called(&lookup, &lookup.found(1, b"a"), book.active_bank());
         let careful = Call::careful(0);
-        counts.called(&careful, &careful.refused(5), true);
+        counts.called(&careful, &careful.refused(5), book.active_bank());
         let mut both = counts.clone();
         both += counts;
         let told = "2 openings, 2 refused with 4; 6 calls with a number, 2 refused with 5, \
                     2 refused with 6; 2 careful commits, 2 refused with 5; 2 found; 4 lookups";
         assert_eq!(both.to_string(), told);
+    }
+
+    #[test]
+    fn barrel_inserts_are_counted_by_length_and_room() {
+        let (mut counts, mut book) = (Counts::opened(&Ok(book())), book());
+        let filling = Call::insert(b"", &vec![0; PART - 24 - 37 - 37 - 512], 0);
+        let barrel = |len| Call::barrel(b"", &vec![0; len], 0);
+        for call in [barrel(513), filling, barrel(513), barrel(512), barrel(511), barrel(1)] {
+            let answer = book.answer(&call);
+            counts.called(&call, &answer, book.active_bank());
+        }
+        counts.called(&barrel(513), &barrel(513).refused(6), None);
+        let told = "1 openings; 7 calls with a number, 1 refused with 6, 2 refused with 8, \
+                    2 refused with 15; 1 banks; 6 barrel inserts, 1 refused with 6, 2 refused with \
+                    8, 2 refused with 15; 1 barrel inserts of 511 bytes; 1 barrel inserts of 512 \
+                    bytes; 2 barrel inserts of 513 bytes; 1 barrel inserts with 15 and without \
+                    room; 1 inserts";
+        assert_eq!(counts.to_string(), told);
     }
 }

@@ -1,7 +1,7 @@
 //! What demand 3 says of the flash and of its wear, looked at as a run goes. By 01 no old commit is
 //! refused with 12, and L is over all commits; by N4 of the change requests (02) every commit is
 //! careful, and L is over the accepted ones. Both bounds are looked at in every run of 01's, since
-//! N4's is proved there too.
+//! N4's is proved there too. By N5 barrel inserts that are accepted add to the bytes of both.
 
 use image::RECORD;
 
@@ -47,7 +47,7 @@ impl Watch {
         counts: &mut Counts,
     ) -> Result<(), String> {
         match &call.what {
-            What::Insert(value) if call.changes(port) => {
+            What::Insert(_, value) if call.changes(port) => {
                 let size = RECORD + call.key.len() + 1 + value.len();
                 self.wears.iter_mut().for_each(|wear| wear.inserted(size));
                 Ok(())

@@ -21,8 +21,9 @@ pub fn inside(image: &[u8]) -> bool {
     banks.all(|b| model::read(b).outside.is_none())
 }
 
-/// The Rust may be asked for what 01 answers this to; a careful 12 is its own 12 too. What it does
-/// instead, where it may not be asked, is in docs/DIFFERENCES.md.
+/// The Rust may be asked for what 01 answers this to; a careful 12 is its own 12 too, and an
+/// accepted barrel insert its own insert. What it does instead, where it may not be asked, is in
+/// docs/DIFFERENCES.md.
 pub fn within(book: &Book, said: &Answer) -> bool {
     let bank = book.active_bank();
     match said {

@@ -152,7 +152,7 @@ mod tests {
 
     /// An insert that fills the bank with what is live, and a commit that moves it.
     fn moved(lent: &mut Lent, book: &mut Book, value: u8) -> Answer {
-        let insert = Call::new(What::Insert(vec![value]), b"k", 1);
+        let insert = Call::insert(b"k", &[value], 1);
         for call in [&insert, &insert] {
             assert_eq!(lent.ask(call).unwrap(), book.answer(call));
         }

@@ -4,7 +4,7 @@ use feqyondil::{Kind, NotCommitted, Refusal, Store, VarType};
 
 use super::input::Run;
 use crate::store::book::Book;
-use crate::store::lent::call::{Answer, Call, Way, What, ROOM};
+use crate::store::lent::call::{Answer, Call, Manner, Way, What, ROOM};
 use crate::store::lent::same::{same_state, same_work};
 use crate::store::lent::state::{Entry, State, EMPTY, ENTRIES, INVALID, VALID};
 
@@ -74,7 +74,13 @@ fn ask(store: &mut Store, call: &Call) -> Answer {
     let number =
         |done: Result<(), Refusal>| Answer::Number(done.map_or_else(|r| r.number(), |_| 0));
     match &call.what {
-        What::Insert(value) => number(store.insert(&call.key, value, typ)),
+        What::Insert(manner, value) => {
+            let insert = match manner {
+                Manner::Plain => Store::insert,
+                Manner::Barrel => Store::barrel_insert,
+            };
+            number(insert(store, &call.key, value, typ))
+        }
         What::Remove => number(store.remove(&call.key, typ)),
         What::Lookup => found(store, call, typ),
         What::Value(room) => {
