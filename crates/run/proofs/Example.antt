@@ -150,9 +150,13 @@ pub record Twice (counts : ℕ → Bool) (b : Book) (es : List Event) : Type 0 w
   pub commits : first .event .answer ≡ committed 0 (some 0) 0 100
   pub again : erase (second .event .answer) ≡ some 0
   pub within : mostLive counts (first ∷ between) ≤ activeSize b
-  -- all that is inserted between them is the barrels'
+  -- what comes right behind the first is a barrel insert, and nothing else is inserted between them
+  pub next : Page
+  pub others : List Page
+  pub between-is : between ≡ next ∷ others
   pub key : List ℕ
   pub value : List ℕ
+  pub barrels : next .event .call ≡ edit (insert barrel key value Common)
   pub inserted : insertedBytes between ≡ grows (insert barrel key value Common)
   pub requested-once : 0 < requests (earlier ++ (first ∷ []))
 
@@ -180,8 +184,12 @@ module _ (f : List ℕ) (s : Nvram) (w : List ℕ) where
         commits = a .2 .2 .1 .answer;
         again = ap erase (a .2 .2 .2 .2 .1 .answer);
         within = omega arith;
+        next = _;
+        others = [];
+        between-is = refl;
         key = replicate 1 255;
         value = replicate 10 255;
+        barrels = refl;
         inserted = rw (a .2 .2 .2 .1 .answer) refl;
         requested-once = omega (arith, ap (λ (x : Answer). requested (erase x)) (a .2 .2 .1 .answer));
       }
@@ -202,8 +210,12 @@ module _ (f : List ℕ) (s : Nvram) (w : List ℕ) where
               commits = b .1 .answer;
               again = ap erase (b .2 .2 .2 .2 .1 .answer);
               within = rw (b .1 .answer, b .2 .1 .answer, b .2 .2 .1 .answer, b .2 .2 .2 .1 .answer) (omega arith);
+              next = _;
+              others = _ ∷ _ ∷ [];
+              between-is = refl;
               key = replicate 2 255;
               value = replicate 10 255;
+              barrels = refl;
               inserted = rw (b .2 .1 .answer, b .2 .2 .2 .1 .answer) refl;
               requested-once = omega (arith, ap (λ (x : Answer). requested (erase x)) (b .1 .answer));
             };
