@@ -9,7 +9,7 @@ use Rattle.bank.specs.declared.variable.VarType.{VarType}
 use Rattle.bank.specs.Bank.{Bank, Slot, empty, invalid, valid}
 use Rattle.book.specs.Book.{Book, activeSlot}
 use Rattle.book.specs.Edit.{Edit, plain, barrel, insert, editedBy, grows, refusedInsert, refusedEdit}
-use Rattle.book.specs.Call.{edit, edited, stay, bySlot, editAs, editBank, step}
+use Rattle.book.specs.Call.{edit, edited, Outcome, stay, bySlot, editAs, editBank, step}
 
 module _ (b : Book) (key value : List ℕ) (typ : VarType) where
   abbrev clocks : Edit
@@ -23,23 +23,23 @@ module _ (b : Book) (key value : List ℕ) (typ : VarType) where
   same-as k zero = refl
   same-as k (suc n) = refl
 
+  -- by what is done to a bank, since every edit has the same 7
+  same-slots : (e : Edit) (f : Bank → Outcome) → ((k : Bank) → editBank b barrels k ≡ f k) → step b (edit barrels) ≡ bySlot b (edit e) f (activeSlot b)
+  unfolding step bySlot
+  same-slots e f h = go (activeSlot b)
+    where
+      go : (s : Slot) → bySlot b (edit barrels) (editBank b barrels) s ≡ bySlot b (edit e) f s
+      go empty = refl
+      go invalid = refl
+      go (valid k) = h k
+
   pub barrel-same : length value ≤ 512 → step b (edit barrels) ≡ step b (edit clocks)
-  unfolding step bySlot editBank refusedEdit refusedInsert grows
-  barrel-same h = go (activeSlot b)
+  unfolding step editBank refusedEdit refusedInsert grows
+  barrel-same h = same-slots clocks (editBank b clocks) (λ k. ap (editAs b barrels k) (number k) ∙ same-as k (refusedEdit clocks k))
     where
       number : (k : Bank) → refusedEdit barrels k ≡ refusedEdit clocks k
       number k = rw (le-ltb _ _ h)
 
-      go : (s : Slot) → bySlot b (edit barrels) (editBank b barrels) s ≡ bySlot b (edit clocks) (editBank b clocks) s
-      go empty = refl
-      go invalid = refl
-      go (valid k) = ap (editAs b barrels k) (number k) ∙ same-as k (refusedEdit clocks k)
-
   pub barrel-longer : 512 < length value → step b (edit barrels) ≡ bySlot b (edit barrels) (λ k. stay b (edited 15)) (activeSlot b)
-  unfolding step bySlot editBank editAs refusedEdit refusedInsert
-  barrel-longer h = go (activeSlot b)
-    where
-      go : (s : Slot) → bySlot b (edit barrels) (editBank b barrels) s ≡ bySlot b (edit barrels) (λ k. stay b (edited 15)) s
-      go empty = refl
-      go invalid = refl
-      go (valid k) = rw (lt-ltb _ _ h)
+  unfolding editBank editAs refusedEdit refusedInsert
+  barrel-longer h = same-slots barrels (λ k. stay b (edited 15)) (λ k. rw (lt-ltb _ _ h))

@@ -1,6 +1,6 @@
 -- The contracts of the exported calls, from those of the calls: 6 where the bytes hold no state (`calls-6`), else by the state that was loaded
--- (`calls`, `keeps`, `exported-remove`); and of the exported opening (`opens-6`, `opens`). To be read: a careful commit that is refused
--- (`careful-refused`).
+-- (`calls`, `keeps`, `exported-remove`); and of the exported opening (`opens-6`, `opens`). To be read: a call that is refused leaves every byte
+-- (`exported-refused`), so an edit and a careful commit (`edit-refused`, `careful-refused`).
 use Prim.Native.Nat.{ℕ, _≤_, _<_}
 use mathlib.Core.Path.{_≡_, refl, sym, ap, _∙_, subst}
 use mathlib.Core.List.{List, [], _∷_}
@@ -12,10 +12,12 @@ use borrow.Author.Tests.{le-leb, lt-leb}
 use Rattle.crc32.specs.Crc32.{Bytes}
 use Rattle.bank.specs.declared.variable.VarType.{VarType}
 use Rattle.records.specs.Checked.{isSome}
-use Rattle.book.specs.Edit.{remove}
+use Rattle.book.specs.Edit.{Edit, remove}
 use Rattle.book.specs.Opening.{opening}
 use Rattle.book.specs.Commit.{careful}
-use Rattle.book.specs.Call.{Call, edit, commit, Answer, edited, committed, number, refusal}
+use Rattle.book.specs.Call.{Call, edit, commit, Answer, edited, number, refusal, Follows}
+use Rattle.book.proofs.StepLaws.{not-old}
+use Rattle.book.proofs.RefusalLaws.{refusal-again}
 use Rattle.nvram.specs.declared.state.Kind.{Kind}
 use Rattle.nvram.specs.declared.state.Kind.the-variants.{Empty, Invalid, Valid}
 use Rattle.nvram.specs.declared.state.Nvram.{Nvram}
@@ -23,7 +25,7 @@ use Rattle.nvram.specs.Layout.{view}
 use Rattle.nvram.specs.Ready.{activeEntry}
 use Rattle.nvram.specs.Contract.{call, Does, begun}
 use Rattle.nvram.proofs.CallLaws.{does-6, empty-valid, invalid-valid}
-use Rattle.nvram.proofs.KeepLaws.{careful-keeps}
+use Rattle.nvram.proofs.KeepLaws.{refusal-keeps}
 use Rattle.nvram.proofs.ReadyLaws.{stand}
 use Rattle.nvram.proofs.ActiveLaws.{Sound, does-7}
 use Rattle.variables.proofs.EditLaws.{removes}
@@ -92,31 +94,57 @@ exported-remove key typ bs w s e k kw r s′ w′ d =
     keeps (edit (remove key typ)) bs w [] r [] [] s e (edited r) [] (refl, refl, refl) w′ k
     (record { answer = d .answer; out = d .out; state = remove-stays key typ s w kw (read-state-fine bs s k e .banks-long); work = d .work })
 
--- what the header says of a careful commit that is refused (02, N4): nothing is asked for, and every byte stays
+-- a call that is refused
+
+-- what the header says of it, 12 of the old commit apart: the caller is told its number and no more, and state's bytes and work area stay
+pub record Untouched (c : Call) (bs w o : List ℕ) (r : ℕ) (q bs′ w′ o′ : List ℕ) : Type 0 where
+  pub tells : Tells c (refusal c (number (exported c bs w .answer))) [] o r q o′
+  pub state : bs′ ≡ bs
+  pub work : w′ ≡ w
+
+module _ (c : Call) (bs w o : List ℕ) (r : ℕ) (q bs′ w′ o′ : List ℕ) (d : Calls c bs w o r q bs′ w′ o′) where
+  untouched : (y : BytesAfter) → exported c bs w ≡ y → y .answer ≡ refusal c (number (y .answer)) → y .out ≡ [] → y .state ≡ bs → y .work ≡ w
+      → Untouched c bs w o r q bs′ w′ o′
+  untouched y e a x s v =
+      let f : Answer → Answer = λ z. refusal c (number z) in
+      let p : exported c bs w .answer ≡ f (exported c bs w .answer) = ap (λ (z : BytesAfter). z .answer) e ∙ a ∙ ap (λ (z : BytesAfter). f (z .answer)) (sym e) in
+      record {
+        tells =
+            subst (λ (z : List ℕ). Tells c (f (exported c bs w .answer)) z o r q o′) (ap (λ (z : BytesAfter). z .out) e ∙ x)
+            (subst (λ (z : Answer). Tells c z (exported c bs w .out) o r q o′) p (d .tells));
+        state = d .state ∙ ap (λ (z : BytesAfter). z .state) e ∙ s;
+        work = d .work ∙ ap (λ (z : BytesAfter). z .work) e ∙ v;
+      }
+
+  pub exported-refused : Bytes bs → Bytes w → number (exported c bs w .answer) ≢ 0 → Follows c (number (exported c bs w .answer))
+      → Untouched c bs w o r q bs′ w′ o′
+  unfolding exported onState
+  exported-refused k kw h m = go (readState bs) refl
+    where
+      go : (s : Option Nvram) → readState bs ≡ s → Untouched c bs w o r q bs′ w′ o′
+      go none e = untouched (onState none c bs w) (ap (λ (z : Option Nvram). onState z c bs w) e) (sym (refusal-again c 6)) refl refl refl
+      go (some s) e =
+          let p : exported c bs w ≡ onState (some s) c bs w = ap (λ (z : Option Nvram). onState z c bs w) e in
+          let n : number (exported c bs w .answer) ≡ number (call c s w .answer) = ap (λ (z : BytesAfter). number (z .answer)) p in
+          let f = refusal-keeps c s w kw (read-state-fine bs s k e .banks-long) (λ z. h (n ∙ z)) (λ i z. m i (n ∙ z)) in
+          untouched (onState (some s) c bs w) p (sym (f .answer)) (sym (f .out)) (ap (λ (z : Nvram). stored z bs) (sym (f .state)) ∙ bytes-back bs s k e) (sym (f .work))
+
+-- of an edit, and so of the barrels' insert (02, N5)
+pub edit-refused : (e : Edit) (bs w : List ℕ) (r : ℕ) (bs′ w′ : List ℕ) → Bytes bs → Bytes w → Calls (edit e) bs w [] r [] bs′ w′ [] → r ≢ 0
+    → (bs′ ≡ bs) × (w′ ≡ w)
+edit-refused e bs w r bs′ w′ k kw d h =
+    let u = exported-refused (edit e) bs w [] r [] bs′ w′ [] d k kw (λ z. h (d .tells .0 ∙ z)) (not-old (edit e) _ refl) in
+    (u .state, u .work)
+
+-- of a careful commit (02, N4), which asks for nothing
 pub careful-refused : (room : ℕ) (bs w o : List ℕ) (r : ℕ) (q bs′ w′ o′ : List ℕ) → Bytes bs → Bytes w
     → Calls (commit careful room) bs w o r q bs′ w′ o′
     → r ≢ 0
     → (q ≡ 0 ∷ 0 ∷ 0 ∷ 0 ∷ []) × (bs′ ≡ bs) × (w′ ≡ w) × (o′ ≡ o)
-unfolding exported onState
-careful-refused room bs w o r q bs′ w′ o′ k kw d h = go (readState bs) refl
-  where
-    c : Call
-    c = commit careful room
-
-    left : (n : ℕ) (y : BytesAfter) → exported c bs w ≡ y → y .answer ≡ committed n none 0 0 → y .state ≡ bs → y .work ≡ w
-        → (q ≡ 0 ∷ 0 ∷ 0 ∷ 0 ∷ []) × (bs′ ≡ bs) × (w′ ≡ w) × (o′ ≡ o)
-    left n y e a s v =
-        let t : Tells c (committed n none 0 0) (exported c bs w .out) o r q o′ =
-        subst (λ (x : Answer). Tells c x (exported c bs w .out) o r q o′) (ap (λ (z : BytesAfter). z .answer) e ∙ a) (d .tells) in
-        (t .fields, d .state ∙ ap (λ (z : BytesAfter). z .state) e ∙ s, d .work ∙ ap (λ (z : BytesAfter). z .work) e ∙ v, t .rest)
-
-    go : (m : Option Nvram) → readState bs ≡ m → (q ≡ 0 ∷ 0 ∷ 0 ∷ 0 ∷ []) × (bs′ ≡ bs) × (w′ ≡ w) × (o′ ≡ o)
-    go none e = left 6 (onState none c bs w) (ap (λ (z : Option Nvram). onState z c bs w) e) refl refl refl
-    go (some s) e =
-        let p : exported c bs w ≡ onState (some s) c bs w = ap (λ (z : Option Nvram). onState z c bs w) e in
-        let n : number (call c s w .answer) ≢ 0 = λ z. h (d .tells .returned ∙ ap (λ (y : BytesAfter). number (y .answer)) p ∙ z) in
-        let f = careful-keeps room s w kw (read-state-fine bs s k e .banks-long) n in
-        left _ (onState (some s) c bs w) p (sym (f .answer)) (ap (λ (z : Nvram). stored z bs) (sym (f .state)) ∙ bytes-back bs s k e) (sym (f .work))
+careful-refused room bs w o r q bs′ w′ o′ k kw d h =
+    let c : Call = commit careful room in
+    let u = exported-refused c bs w o r q bs′ w′ o′ d k kw (λ z. h (d .tells .returned ∙ z)) (not-old c _ refl) in
+    (u .tells .fields, u .state, u .work, u .tells .rest)
 
 -- an opening
 
