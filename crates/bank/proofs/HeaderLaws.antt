@@ -8,7 +8,7 @@ use lib.Dec.{leb, eqb}
 use lib.ListN.{length, getD, take, length-append}
 use borrow.Author.Tests.{le-leb, lt-leb, eq-eqb, ne-eqb, leb-true, eqb-true, eqb-false}
 use Rattle.buffers.specs.Bytes.{eqBytes}
-use Rattle.buffers.proofs.Laws.{clash, eq-bytes, eq-bytes-refl, and-both}
+use Rattle.buffers.proofs.Laws.{clash, eq-bytes, eq-bytes-refl, and-both, by-test}
 use Rattle.bank.specs.declared.header.StoreHeader.{StoreHeader}
 use Rattle.bank.specs.declared.header.Head.{Head}
 use Rattle.bank.specs.declared.header.Head.the-variants.{Signature, Version, Size, Good}
@@ -17,7 +17,6 @@ use Rattle.bank.specs.Header.{signature, headerBytes, headerOf, signed, 
 use Rattle.bank.specs.WellFormed.{FineHeader}
 use Rattle.bank.proofs.NumberLaws.{u32-sum}
 use Rattle.bank.proofs.LengthLaws.{length-header}
-use Rattle.bank.proofs.WalkLaws.{by-test}
 
 -- a header, by its faults in order
 module _ (s : List ℕ) where

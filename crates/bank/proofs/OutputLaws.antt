@@ -6,7 +6,7 @@ use mathlib.Core.Path.{_≡_, ap, _∙_}
 use mathlib.Core.List.{List, [], _∷_, _++_, append-assoc}
 use lib.ListN.{length}
 use Rattle.crc32.specs.Crc32.{Bytes, crc32Of}
-use Rattle.crc32.proofs.ByteLaws.{bytes-append, bytes-ff}
+use Rattle.buffers.proofs.BelowLaws.{below-append, bytes-ff}
 use Rattle.bank.specs.declared.header.StoreHeader.{StoreHeader}
 use Rattle.bank.specs.Number.{u32At, le32}
 use Rattle.bank.specs.Header.{headerBytes}
@@ -39,7 +39,7 @@ all-cons : {a : ℕ} {x : List ℕ} → a < 256 → AllBytes x → AllBytes (a �
 all-cons {a = a} {x = x} h k = record { bytes = cons-bytes a x h (k .bytes) }
 
 all-append : {x y : List ℕ} → AllBytes x → AllBytes y → AllBytes (x ++ y)
-all-append {x = x} {y = y} h k = record { bytes = bytes-append x y (h .bytes) (k .bytes) }
+all-append {x = x} {y = y} h k = record { bytes = below-append x y (h .bytes) (k .bytes) }
 
 all-number : (n : ℕ) → AllBytes (le32 n)
 unfolding le32

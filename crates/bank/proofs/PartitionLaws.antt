@@ -9,7 +9,7 @@ use borrow.Author.Tests.{lt-leb, le-leb, leb-true, leb-false}
 use lib.Dec.{leb}
 use lib.ListN.{length, take, drop, length-drop}
 use Rattle.crc32.specs.Crc32.{Bytes}
-use Rattle.buffers.proofs.Laws.{clash}
+use Rattle.buffers.proofs.Laws.{clash, by-test}
 use Rattle.buffers.proofs.LoopSteps.{tail}
 use Rattle.bank.specs.declared.header.StoreHeader.{StoreHeader}
 use Rattle.bank.specs.declared.header.Head.{Head}
@@ -26,7 +26,7 @@ use Rattle.bank.specs.Read.{Item, got, halt, found, Walk, halted, withFi
 use Rattle.bank.specs.Bank.{bankSize, ofLent}
 use Rattle.bank.specs.Totals.{total}
 use Rattle.bank.specs.Answer.{stepOf, walked, partitionOf, answer, parsed}
-use Rattle.bank.proofs.WalkLaws.{by-test, stands, stands-size, walk-at, walk-end, walk-got, walk-halt}
+use Rattle.bank.proofs.WalkLaws.{stands, stands-size, walk-at, walk-end, walk-got, walk-halt}
 use Rattle.bank.proofs.ReadFine.{FineWalk, walk-fine}
 
 step-next : (o : Item) (n : ℕ) → Next n ≡ stepOf o → (r : Record) × (o ≡ got r) × (sizeOf r ≡ n)

@@ -7,7 +7,7 @@ use native.Mathlib.Omega.{arith}
 use lib.ListN.{length, getD, take, drop, length-drop}
 use lib.Seq.{length-take-le, take-nil, take-take, drop-drop, getD-take}
 use Rattle.crc32.specs.Crc32.{crc32Of, Bytes}
-use Rattle.crc32.proofs.ByteLaws.{bytes-take, bytes-drop}
+use Rattle.buffers.proofs.BelowLaws.{below-take, below-drop}
 use Rattle.bank.specs.declared.partition.Stop.{Stop}
 use Rattle.bank.specs.declared.partition.Stop.the-variants.{End}
 use Rattle.bank.specs.Number.{u16At, u32At}
@@ -29,11 +29,11 @@ fine-fields s k e n =
       state-fits = k 2;
       attributes-fit = u32-lt s 4 k;
       guid-long = length-take-le 16 (drop 16 s) (omega (arith, length-drop 16 s));
-      guid-bytes = bytes-take 16 (drop 16 s) (bytes-drop 16 s k);
+      guid-bytes = below-take 16 (drop 16 s) (below-drop 16 s k);
       key-fits = omega (arith, u32-lt s 8 k, lk, n);
-      key-bytes = bytes-take (nameAt s - 1) (drop 36 s) (bytes-drop 36 s k);
+      key-bytes = below-take (nameAt s - 1) (drop 36 s) (below-drop 36 s k);
       value-fits = omega (arith, u32-lt s 12 k, lv);
-      value-bytes = bytes-take (valueAt s) (drop (36 + nameAt s) s) (bytes-drop (36 + nameAt s) s k);
+      value-bytes = below-take (valueAt s) (drop (36 + nameAt s) s) (below-drop (36 + nameAt s) s k);
     }
 
 pub fine-record : (s : List ℕ) (r : Record) → Bytes s → Stands s r → FineRecord r
@@ -111,7 +111,7 @@ module _ (s : List ℕ) (n : ℕ) (is : n ≡ sizeAt s) where
       let e = h .ends in
       let d = h .named in
       record {
-        bytes = bytes-take n s k;
+        bytes = below-take n s k;
         starts = u16-take s n (omega arith) ∙ h .starts;
         long = length-take-le n s (omega arith) ∙ omega (arith, front-name, front-value);
         named = omega (arith, front-name);
@@ -141,12 +141,12 @@ walk-fine s size k =
         let d : take (w .at - at) x ≡ take n x ++ take (w .at - (at + n)) (drop (at + n) s) =
         ap (λ (i : ℕ). take i x) m ∙ take-add n (w .at - (at + n)) x ∙ ap (λ (y : List ℕ). take n x ++ take (w .at - (at + n)) y) (drop-drop n at s) in
         record {
-          fine = (fine-record x r (bytes-drop at s k) st, f .fine);
+          fine = (fine-record x r (below-drop at s k) st, f .fine);
           low = omega arith;
           high = f .high;
           raw =
               subst (λ (y : List ℕ). Raw y (r ∷ w .records)) (sym d)
               (subst (λ (q : Record). Raw (take n x ++ take (w .at - (at + n)) (drop (at + n) s)) (q ∷ w .records)) (front-record x n sz (st .named) ∙ sym (st .is))
-              (one (front-whole x n sz r (bytes-drop at s k) st) (f .raw)));
+              (one (front-whole x n sz r (below-drop at s k) st) (f .raw)));
           inside = f .inside;
         }

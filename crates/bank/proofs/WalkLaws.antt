@@ -3,7 +3,7 @@
 use Prim.Native.Nat.{ℕ, zero, suc, _+_, _-_, _≤_, _<_}
 use mathlib.Core.Path.{_≡_, refl, sym, ap, _∙_, subst}
 use mathlib.Core.List.{List}
-use mathlib.Core.Bool.{Bool, true, false, cond}
+use mathlib.Core.Bool.{Bool, true, false}
 use native.Mathlib.Nat.{not-suc-le-zero}
 use native.Mathlib.Omega.{arith}
 use lib.Dec.{ltb, leb, eqb}
@@ -12,17 +12,12 @@ use lib.Seq.{length-take-le, getD-take}
 use borrow.Author.Tests.{eq-eqb, ne-eqb, le-ltb, lt-ltb, le-leb, lt-leb, leb-true, leb-false, ltb-true, ltb-false, eqb-true, eqb-false}
 use Rattle.crc32.specs.Crc32.{crc32Of}
 use Rattle.buffers.specs.Bytes.{allBlank}
-use Rattle.buffers.proofs.Laws.{all-blank-head}
+use Rattle.buffers.proofs.Laws.{all-blank-head, by-test}
 use Rattle.bank.specs.declared.partition.Stop.{Stop}
 use Rattle.bank.specs.declared.partition.Stop.the-variants.{Blank, Start, Length, End, Name, Crc}
 use Rattle.bank.specs.Number.{u16At, u32At}
 use Rattle.bank.specs.Record.{Record, recordOf, sizeOf, sizes, nameAt, valueAt, sizeAt}
 use Rattle.bank.specs.Read.{Item, got, halt, found, Walk, halted, withFirst, after, walkTurn, walk, walkFrom}
-
--- what holds in both cases of a test
-pub by-test : {A : Type 0} (P : A → Type 0) (t : Bool) (x y : A) → (t ≡ true → P x) → (t ≡ false → P y) → P (cond t x y)
-by-test P true x y f g = f refl
-by-test P false x y f g = g refl
 
 module _ (s : List ℕ) where
   -- the value's sum, as it is compared

@@ -7,7 +7,7 @@ use native.Mathlib.Omega.{arith}
 use lib.ListN.{length, take, length-append}
 use lib.Seq.{length-take-le}
 use Rattle.crc32.specs.Crc32.{Bytes}
-use Rattle.crc32.proofs.ByteLaws.{bytes-take}
+use Rattle.buffers.proofs.BelowLaws.{below-take}
 use Rattle.bank.specs.declared.header.StoreHeader.{StoreHeader}
 use Rattle.bank.specs.declared.variable.VarType.{VarType}
 use Rattle.bank.specs.declared.variable.VarType.the-variants.{Common, System}
@@ -83,5 +83,5 @@ pub listing-fits : (s : List ℕ) → Bytes s → length (listing s) ≤ outSize
 unfolding listing bankSize outSize
 listing-fits s d =
     lent-by (line (shortWord ∷ [])) (λ b. slotLines (readBank b)) s (λ x. length x ≤ outSize)
-    (λ t. slot-short (take bankSize s) (bytes-take bankSize s d) (length-take-le bankSize s t) (readBank (take bankSize s)) refl)
+    (λ t. slot-short (take bankSize s) (below-take bankSize s d) (length-take-le bankSize s t) (readBank (take bankSize s)) refl)
     (λ _. omega (arith, length-last shortWord))

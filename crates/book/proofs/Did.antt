@@ -8,9 +8,9 @@ use native.Mathlib.Omega.{arith}
 use lib.ListN.{length}
 use lib.Dec.{leb, ltb}
 use borrow.Author.Tests.{leb-true, leb-false}
+use Rattle.buffers.proofs.Laws.{by-test}
 use Rattle.bank.specs.Bank.{Bank, Slot, empty, invalid, valid, bankSize, output}
 use Rattle.bank.specs.Totals.{total, liveTotal}
-use Rattle.bank.proofs.WalkLaws.{by-test}
 use Rattle.records.specs.declared.edit.Found.{Found}
 use Rattle.records.specs.declared.figures.Figures.{Figures}
 use Rattle.book.specs.Edit.{Edit, insert, remove, editedBy, grows, refusedEdit}

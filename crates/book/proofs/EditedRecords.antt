@@ -5,9 +5,9 @@ use mathlib.Core.List.{List, [], _∷_}
 use native.Mathlib.Omega.{arith}
 use lib.Dec.{leb}
 use borrow.Author.Tests.{leb-true}
+use Rattle.buffers.proofs.Laws.{by-test}
 use Rattle.bank.specs.Record.{Record, sizeOf, sizes}
 use Rattle.bank.specs.WellFormed.{FineRecords}
-use Rattle.bank.proofs.WalkLaws.{by-test}
 use Rattle.records.specs.Match.{removed, fresh}
 use Rattle.records.proofs.RecordLists.{sizes-append, fine-append, fine-removed, sizes-removed, fine-fresh}
 use Rattle.book.specs.Book.{partSize}

@@ -6,10 +6,10 @@ use mathlib.Core.Bool.{Bool, true, false}
 use native.Mathlib.Omega.{arith}
 use lib.Dec.{ltb, eqb}
 use borrow.Author.Tests.{ltb-true, ltb-false, eqb-false}
+use Rattle.buffers.proofs.Laws.{by-test}
 use Rattle.bank.specs.declared.header.StoreHeader.{StoreHeader}
 use Rattle.bank.specs.Bank.{Bank}
 use Rattle.bank.specs.Totals.{total, liveTotal}
-use Rattle.bank.proofs.WalkLaws.{by-test}
 use Rattle.records.specs.Figures.{systemUsed, commonUsed}
 use Rattle.book.specs.Commit.{Way, old, careful, Judged, refuse, inPlace, move, judge, carefully, judgeAs, due, judgeBank}
 

@@ -9,11 +9,10 @@ use lib.Dec.{ltb, leb}
 use lib.ListN.{length, take, drop, length-take, length-drop}
 use borrow.Author.Tests.{ltb-false, leb-false}
 use Rattle.crc32.specs.Crc32.{Bytes}
-use Rattle.crc32.proofs.ByteLaws.{bytes-take, bytes-drop}
-use Rattle.buffers.proofs.Laws.{clash}
+use Rattle.buffers.proofs.BelowLaws.{below-take, below-drop}
+use Rattle.buffers.proofs.Laws.{clash, by-test}
 use Rattle.bank.specs.Bank.{Slot, empty, invalid, valid, bankSize}
 use Rattle.bank.specs.Read.{readBank}
-use Rattle.bank.proofs.WalkLaws.{by-test}
 use Rattle.bank.proofs.ReadBank.{read-fine}
 use Rattle.bank.proofs.PartitionLaws.{bank-size}
 use Rattle.book.specs.Book.{partSize, FineSlot, Book, FineSlots, FineBook}
@@ -32,7 +31,7 @@ pub bank-fine : (image : List ℕ) (i : ℕ) → Bytes image → (i + 1) * 65536
 bank-fine image i b h =
     let s : i * bankSize ≡ i * 65536 = ap (λ (k : ℕ). i * k) bank-size in
     let x = drop (i * bankSize) image in
-    slot-of (take bankSize x) (bytes-take bankSize x (bytes-drop (i * bankSize) image b))
+    slot-of (take bankSize x) (below-take bankSize x (below-drop (i * bankSize) image b))
     (simp (length-take, length-drop) (omega (arith, bank-size))) (slotIn image i) refl
 
 slots-fine : (n : ℕ) (image : List ℕ) → Bytes image → n * 65536 ≤ length image → FineSlots (readSlots n image)
@@ -40,7 +39,7 @@ unfolding readSlots
 slots-fine zero image b h = tt
 slots-fine (suc n) image b h = (
   subst (λ (k : ℕ). FineSlot (readBank (take bankSize (drop k image)))) (zero-mul bankSize) (bank-fine image 0 b (omega arith)),
-  slots-fine n (drop bankSize image) (bytes-drop bankSize image b) (simp length-drop (omega (arith, bank-size))),
+  slots-fine n (drop bankSize image) (below-drop bankSize image b) (simp length-drop (omega (arith, bank-size))),
 )
 
 active-within : (ss : List Slot) (i best active n : ℕ) → i + length ss ≡ n → active < n → activeFrom i best active ss < n

@@ -27,6 +27,11 @@ module _ (m n a : ℕ) (h : m ≤ n) where
 pub clash : {A : Type 0} → _≡_ {A = ℕ} 0 1 → A
 clash e = absurd (omega (arith, e))
 
+-- what holds in both cases of a test
+pub by-test : {A : Type 0} (P : A → Type 0) (t : Bool) (x y : A) → (t ≡ true → P x) → (t ≡ false → P y) → P (cond t x y)
+by-test P true x y f g = f refl
+by-test P false x y f g = g refl
+
 -- equality
 pub eq-bytes : (a b : List ℕ) → eqBytes a b ≡ true → a ≡ b
 unfolding eqBytes

@@ -36,6 +36,10 @@ module _ {all left t rest : Bool} (p : all ≡ left) (q : Both left t rest) wher
 pub tail : (s : List ℕ) (i : ℕ) → take (length s - i) (drop i s) ≡ drop i s
 tail s i = take-all (length s - i) (drop i s) (omega (arith, length-drop i s))
 
+-- what a match tells of a call on it
+pub told-tail : {A : Type 0} {r x : A} (f : List ℕ → A) (s : List ℕ) (i : ℕ) → r ≡ f (take (length s - i) (drop i s)) → r ≡ x → f (drop i s) ≡ x
+told-tail f s i e g = ap f (sym (tail s i)) ∙ sym e ∙ g
+
 -- what is lent as `&s[i..e]`, and what comes after it
 pub part : (s : List ℕ) (i e : ℕ) → i ≤ e → drop i s ≡ take (e - i) (drop i s) ++ drop e s
 part s i e h =

@@ -1,11 +1,15 @@
--- Bytes put over others, and tests of bytes: all 0xFF, all 0 or 0xFF, how many 0xFF in front, the same as others.
-use Prim.Native.Nat.{ℕ, _+_, suc}
+-- Numbers put over others, numbers below a bound, and tests of bytes: all 0xFF, all 0 or 0xFF, how many 0xFF in front, the same as others.
+use Prim.Native.Nat.{ℕ, _+_, _<_, suc}
 use mathlib.Core.List.{List, [], _∷_, _++_}
 use mathlib.Core.Bool.{Bool, true, false, _&&_, _||_, cond}
-use lib.ListN.{length, take, drop}
+use lib.ListN.{length, getD, take, drop}
 use lib.Dec.{eqb}
 
--- w with the bytes x over it from a place on
+-- each is below m: below 256, as those of a `&[u8]` are
+abbrev pub AllBelow : ℕ → List ℕ → Type 0
+AllBelow m l = (i : ℕ) → getD l i 0 < m
+
+-- w with x over it from a place on
 unfoldable pub over : ℕ → List ℕ → List ℕ → List ℕ
 over at x w = take at w ++ (x ++ drop (at + length x) w)
 

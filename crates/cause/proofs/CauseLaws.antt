@@ -7,7 +7,7 @@ use mathlib.Core.Bool.{Bool, true, false, cond}
 use lib.Dec.{leb}
 use lib.ListN.{length, take}
 use Rattle.buffers.specs.Bytes.{allFF}
-use Rattle.buffers.proofs.Laws.{all-ff-is}
+use Rattle.buffers.proofs.Laws.{all-ff-is, by-test}
 use Rattle.bank.specs.declared.header.StoreHeader.{StoreHeader}
 use Rattle.bank.specs.declared.header.Head.{Head}
 use Rattle.bank.specs.declared.header.Head.the-variants as head
@@ -20,7 +20,6 @@ use Rattle.bank.specs.Bank.{empty, invalid, bankSize}
 use Rattle.bank.specs.Read.{walkFrom, usableAt, spoils, erasedSlot, readBank}
 use Rattle.bank.specs.Answer.{walked, answer, parsed}
 use Rattle.bank.proofs.HeaderLaws.{HeadShows, head-shows}
-use Rattle.bank.proofs.WalkLaws.{by-test}
 use Rattle.bank.proofs.PartitionLaws.{read-size, read-version, read-signature, read-spoiled, read-kept}
 use Rattle.cause.specs.declared.Cause.the-variants.{Short, Empty, Signature, Version, Size}
 use Rattle.cause.specs.Cause.{stopCause, walkCause, headCause, bankCause, causeOf, isFault, isInvalid}

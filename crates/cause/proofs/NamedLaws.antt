@@ -8,7 +8,7 @@ use native.Mathlib.Omega.{arith}
 use lib.ListN.{length, take, drop, replicate}
 use lib.Seq.{take-all, length-take-le}
 use Rattle.buffers.specs.Bytes.{allFF}
-use Rattle.buffers.proofs.Laws.{clash, all-ff-is, all-ff-replicate}
+use Rattle.buffers.proofs.Laws.{clash, all-ff-is, all-ff-replicate, by-test}
 use Rattle.bank.specs.declared.header.StoreHeader.{StoreHeader}
 use Rattle.bank.specs.declared.header.Head.{Head}
 use Rattle.bank.specs.declared.header.Head.the-variants as head
@@ -21,7 +21,7 @@ use Rattle.bank.specs.Bank.{bankSize}
 use Rattle.bank.specs.Read.{walkFrom}
 use Rattle.bank.specs.Answer.{walked}
 use Rattle.bank.proofs.HeaderLaws.{Headed, HeadShows, head-shows}
-use Rattle.bank.proofs.WalkLaws.{Stands, stands-size, Halts, halts, by-test, walk-ind}
+use Rattle.bank.proofs.WalkLaws.{Stands, stands-size, Halts, halts, walk-ind}
 use Rattle.bank.proofs.PartitionLaws.{one-read, none-read, lent-by}
 use Rattle.cause.specs.declared.Cause.{Cause}
 use Rattle.cause.specs.declared.Cause.the-variants.{Short, Empty, Signature, Version, Size, Name, Crc, Blank, Start, Length, End}

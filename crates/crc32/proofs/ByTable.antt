@@ -10,7 +10,7 @@ use lib.ListN.{length, take, drop, take-append-drop, length-append, length-drop}
 use lib.Seq.{length-take-le}
 use Rattle.crc32.specs.Crc32.{bitSteps, byteSteps, crc32Of, Bytes}
 use Rattle.crc32.specs.Table.{IsTables, tableEntry, byBytes, shares, block, times, inRuns, byWords, byBlocks, crc32By}
-use Rattle.crc32.proofs.ByteLaws.{bytes-take, bytes-drop}
+use Rattle.buffers.proofs.BelowLaws.{below-take, below-drop}
 use Rattle.crc32.proofs.Linear.{xor-assoc, byte-step, share, steps-append, byte-steps-lt}
 use Rattle.crc32.proofs.Shares.{share-nil, share-cons}
 
@@ -66,11 +66,11 @@ module _
   times-steps zero c l h len k = rest c l h k
   times-steps (suc n) c l h len k =
       let x = take w l in
-      let bx = bytes-take w l k in
+      let bx = below-take w l k in
       let long : n * w + w ≤ length l = rw (suc-mul n w) at len in
       let e : f c x ≡ byteSteps c x = run c x h (length-take-le w l (omega arith)) bx in
       ap (λ (i : ℕ). times n w f g i (drop w l)) e
-      ∙ times-steps n (byteSteps c x) (drop w l) (byte-steps-lt c x h bx) (omega (arith, length-drop w l)) (bytes-drop w l k)
+      ∙ times-steps n (byteSteps c x) (drop w l) (byte-steps-lt c x h bx) (omega (arith, length-drop w l)) (below-drop w l k)
       ∙ sym (steps-append x (drop w l) c)
       ∙ ap (byteSteps c) (take-append-drop w l)
 
@@ -99,10 +99,10 @@ module _ {t : List ℕ} (is : IsTables 16 t) where
       let ly : length y ≡ 12 = omega (arith, length-drop 4 l) in
       let first : left c x ≡ 0 = left-none c x (subst (λ (i : ℕ). c < 256 ^ i) (sym lx) h) in
       let late : shares t 0 0 y ≡ byteSteps (left c x) y =
-      all-steps 0 y (one-le-pow (length y) 256 (lit≤ tt)) (omega arith) (bytes-drop 4 l k) ∙ ap (λ (i : ℕ). byteSteps i y) (sym first) in
+      all-steps 0 y (one-le-pow (length y) 256 (lit≤ tt)) (omega arith) (below-drop 4 l k) ∙ ap (λ (i : ℕ). byteSteps i y) (sym first) in
       xor-comm (shares t 0 0 y) (shares t 12 c x)
       ∙ ap₂ (λ (i j : ℕ). bitXor (shares t i c x) j) (sym ly) late
-      ∙ shares-steps is c x y (omega arith) (bytes-take 4 l k)
+      ∙ shares-steps is c x y (omega arith) (below-take 4 l k)
       ∙ ap (byteSteps c) (take-append-drop 4 l)
 
   words-steps : (c : ℕ) (l : List ℕ) → c < 2 ^ 32 → Bytes l → byWords t c l ≡ byteSteps c l

@@ -1,4 +1,3 @@
-pub mod ByteLaws
 pub mod Linear
 pub mod Shares
 pub mod ByTable

@@ -1,12 +1,12 @@
 -- CRC-32 of IEEE 802.3, bit by bit (01, 'Bank and record'): reflected polynomial 0xEDB88320, start and final exclusive-or 0xFFFFFFFF.
 use mathlib.Core.List.{List, [], _∷_}
-use Prim.Native.Nat.{ℕ, zero, suc, _/_, _%_, _<_}
-use lib.ListN.{getD}
+use Prim.Native.Nat.{ℕ, zero, suc, _/_, _%_}
 use lib.Bits.{bitXor}
+use Rattle.buffers.specs.Bytes.{AllBelow}
 
--- each element is a byte, as those of a `&[u8]` are
+-- each number is a byte
 abbrev pub Bytes : List ℕ → Type 0
-Bytes l = (i : ℕ) → getD l i 0 < 256
+Bytes = AllBelow 256
 
 -- the polynomial where the bit shifted out is 1
 unfoldable pub polyIf : ℕ → ℕ

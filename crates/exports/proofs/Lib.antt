@@ -1,2 +1,3 @@
+pub mod LogLaws
 mod StoreLaws
 pub mod ExportRunLaws

@@ -1,6 +1,7 @@
 // Entry points for C and Rust. A slice crosses as a pointer and a length, an array as a pointer.
 mod causes;
 mod checksum;
+mod log;
 mod partition;
 mod same;
 mod store;

@@ -10,7 +10,7 @@ use lib.ListN.{length, getD, set, take, drop, replicate, length-append, length-d
 use lib.Seq.{take-at, drop-at, take-add, length-take-le}
 use borrow.Author.Tests.{eqb-true, le-leb, leb-true, lt-ltb, ltb-true}
 use Rattle.crc32.specs.Crc32.{Bytes}
-use Rattle.crc32.proofs.ByteLaws.{bytes-take, bytes-drop}
+use Rattle.buffers.proofs.BelowLaws.{below-take, below-drop}
 use Rattle.buffers.proofs.Laws.{clash, and-both}
 use Rattle.bank.specs.Bank.{Slot, invalid, partOf}
 use Rattle.bank.specs.Totals.{total}
@@ -212,8 +212,8 @@ slots-back (suc n) [] w ss y l v = clash cc
 slots-back (suc n) (e ∷ es) w ss y l v =
     let o = prepend-some (viewSlot e (take partSize w)) (viewSlots n es (drop partSize w)) ss v in
     let m : n * partSize + partSize ≤ length w = rw suc-mul at l in
-    let a = slot-back e (take partSize w) (o .0) (bytes-take partSize w y) (length-take-le partSize w (omega arith)) (o .2) in
-    let r = slots-back n es (drop partSize w) (o .1) (bytes-drop partSize w y) (omega (arith, length-drop partSize w)) (o .3) in
+    let a = slot-back e (take partSize w) (o .0) (below-take partSize w y) (length-take-le partSize w (omega arith)) (o .2) in
+    let r = slots-back n es (drop partSize w) (o .1) (below-drop partSize w y) (omega (arith, length-drop partSize w)) (o .3) in
     subst (LaidSlots (suc n) (e ∷ es) w) (o .4) (laid-more n e es w (o .0) (o .1) a r)
 
 -- what is viewed was laid out so

@@ -9,7 +9,7 @@ use lib.ListN.{length, getD, set, take, drop, replicate, length-drop, take-appen
 use lib.Seq.{take-at, drop-at, drop-drop, length-take-le, set-getD}
 use borrow.Author.Tests.{eq-eqb, eqb-true, le-leb, leb-true}
 use Rattle.crc32.specs.Crc32.{Bytes}
-use Rattle.crc32.proofs.ByteLaws.{bytes-take, bytes-drop}
+use Rattle.buffers.proofs.BelowLaws.{below-take, below-drop}
 use Rattle.buffers.specs.Bytes.{allFF}
 use Rattle.buffers.proofs.Laws.{clash, all-ff-is, all-ff-replicate, and-both}
 use Rattle.bank.specs.declared.header.StoreHeader.{StoreHeader}
@@ -181,7 +181,7 @@ module _ (e : Entry) (p : List ℕ) (y : Bytes p) (n : length p ≡ partSize) wh
   bank-back h rs q g f v =
       let b : Bank = bankOf h rs (e .usable) in
       let x = take (e .total - 24) (drop 24 p) in
-      let r = records-back x rs (bytes-take (e .total - 24) (drop 24 p) (bytes-drop 24 p y)) v in
+      let r = records-back x rs (below-take (e .total - 24) (drop 24 p) (below-drop 24 p y)) v in
       let l : sizes rs ≡ e .total - 24 =
       sym (length-records rs (r .1)) ∙ ap length (sym (r .0))
       ∙ length-take-le (e .total - 24) (drop 24 p) (omega (arith, length-drop 24 p, f .total-high)) in

@@ -9,7 +9,7 @@ use lib.ListN.{length, getD, set, take, drop, take-append-drop, length-append, l
 use lib.Seq.{getD-at, drop-at, set-getD}
 use borrow.Author.Tests.{eq-eqb, eqb-true}
 use Rattle.crc32.specs.Crc32.{crc32Of, Bytes}
-use Rattle.crc32.proofs.ByteLaws.{bytes-drop}
+use Rattle.buffers.proofs.BelowLaws.{below-drop}
 use Rattle.buffers.proofs.Laws.{clash, and-both}
 use Rattle.bank.specs.Record.{Record, recordOf, sizeOf, nameAt, valueAt, sizeAt, varHeaderBytes, recordBytes, recordsBytes}
 use Rattle.bank.specs.Read.{Item, got, halt, found}
@@ -163,7 +163,7 @@ turns-back zero (x ∷ s) rs b e = clash cc
 turns-back (suc n) [] rs b e = none-back rs e
 turns-back (suc n) (x ∷ s) rs b e =
     let l = drop (sizeAt (x ∷ s)) (x ∷ s) in
-    one-back (x ∷ s) rs (isRecord (x ∷ s)) (viewTurns n l) b refl (λ qs f. turns-back n l qs (bytes-drop (sizeAt (x ∷ s)) (x ∷ s) b) f) e
+    one-back (x ∷ s) rs (isRecord (x ∷ s)) (viewTurns n l) b refl (λ qs f. turns-back n l qs (below-drop (sizeAt (x ∷ s)) (x ∷ s) b) f) e
 
 pub records-back : (s : List ℕ) (rs : List Record) → Bytes s → viewRecords s ≡ some rs → (s ≡ recordsBytes rs) × FineRecords rs
 unfolding viewRecords

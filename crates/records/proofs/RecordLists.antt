@@ -8,13 +8,12 @@ use lib.Dec.{eqb, ltb}
 use lib.ListN.{length}
 use borrow.Author.Tests.{ltb-true}
 use Rattle.crc32.specs.Crc32.{Bytes}
-use Rattle.buffers.proofs.Laws.{and-both}
+use Rattle.buffers.proofs.Laws.{and-both, by-test}
 use Rattle.bank.specs.declared.variable.VarType.{VarType}
 use Rattle.bank.specs.declared.variable.VarType.the-variants.{Common, System}
 use Rattle.bank.specs.Record.{Record, sizeOf, sizes, guidOf, deletedState, recordBytes, recordsBytes}
 use Rattle.bank.specs.Totals.{select}
 use Rattle.bank.specs.WellFormed.{FineRecord, FineRecords}
-use Rattle.bank.proofs.WalkLaws.{by-test}
 use Rattle.records.specs.Match.{matches, deleted, removed, fresh}
 
 pub records-append : (rs qs : List Record) → recordsBytes (rs ++ qs) ≡ recordsBytes rs ++ recordsBytes qs

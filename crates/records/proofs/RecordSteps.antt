@@ -11,7 +11,7 @@ use lib.Seq.{getD-drop, drop-drop}
 use borrow.Author.Tests.{eq-eqb, ne-eqb}
 use Rattle.crc32.specs.Crc32.{crc32Of}
 use Rattle.buffers.specs.Bytes.{eqBytes}
-use Rattle.buffers.proofs.Laws.{clash}
+use Rattle.buffers.proofs.Laws.{clash, by-test}
 use Rattle.buffers.proofs.LoopSteps.{tail}
 use Rattle.bank.specs.declared.variable.VarType.{VarType}
 use Rattle.bank.specs.declared.variable.VarHeader.{VarHeader}
@@ -19,7 +19,7 @@ use Rattle.bank.specs.Number.{u16At}
 use Rattle.bank.specs.Answer.{parsedHeader}
 use Rattle.bank.specs.Record.{Record, recordOf, sizeOf, nameAt, valueAt, sizeAt, varHeaderBytes, recordBytes, live, typeOf, deletedState}
 use Rattle.bank.specs.WellFormed.{FineRecord}
-use Rattle.bank.proofs.WalkLaws.{by-test, stands-size}
+use Rattle.bank.proofs.WalkLaws.{stands-size}
 use Rattle.bank.proofs.FieldLaws.{header-long, name-is, value-is, crc-is}
 use Rattle.bank.proofs.RecordBack.{record-of-back}
 use Rattle.records.specs.declared.check.Next.{Next}

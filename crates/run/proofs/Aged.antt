@@ -9,6 +9,7 @@ use lib.Dec.{eqb}
 use lib.ListN.{length, length-append}
 use borrow.Author.Tests.{eqb-true}
 use Rattle.crc32.specs.Crc32.{Bytes, crc32Of}
+use Rattle.buffers.proofs.Laws.{by-test}
 use Rattle.bank.specs.declared.variable.VarType.{VarType}
 use Rattle.bank.specs.Number.{le32}
 use Rattle.bank.specs.Header.{headerBytes}
@@ -16,7 +17,6 @@ use Rattle.bank.specs.Record.{Record, deletedState, varHeaderBytes, recordBytes
 use Rattle.bank.specs.Bank.{Bank, padded, bankBytes, output}
 use Rattle.bank.specs.Totals.{total}
 use Rattle.bank.specs.WellFormed.{FineHeader, FineRecords}
-use Rattle.bank.proofs.WalkLaws.{by-test}
 use Rattle.bank.proofs.PaddedLaws.{blanks, length-blanks}
 use Rattle.bank.proofs.OutputLaws.{length-output, bytes-output}
 use Rattle.records.specs.Match.{matches, deleted, removed, fresh}

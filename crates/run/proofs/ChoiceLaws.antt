@@ -11,10 +11,9 @@ use lib.Dec.{ltb}
 use lib.ListN.{length, getD, take, drop}
 use lib.Seq.{drop-drop}
 use borrow.Author.Tests.{ltb-true, ltb-false, lt-ltb, le-ltb}
-use Rattle.buffers.proofs.Laws.{clash}
+use Rattle.buffers.proofs.Laws.{clash, by-test}
 use Rattle.bank.specs.Bank.{Bank, Slot, empty, invalid, valid, bankSize}
 use Rattle.bank.specs.Read.{readBank}
-use Rattle.bank.proofs.WalkLaws.{by-test}
 use Rattle.book.specs.Opening.{bankIn, readSlots, activeFrom, anyValid}
 
 pub slot-at : (n : ℕ) (flash : List ℕ) (i : ℕ) → i < n → getD (readSlots n flash) i invalid ≡ readBank (bankIn flash i)

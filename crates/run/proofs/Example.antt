@@ -12,7 +12,7 @@ use lib.ListN.{length, replicate, length-append, length-replicate}
 use lib.Seq.{take-all}
 use borrow.Author.Tests.{le-ltb, lt-leb}
 use Rattle.crc32.specs.Crc32.{Bytes}
-use Rattle.crc32.proofs.ByteLaws.{bytes-append, bytes-ff}
+use Rattle.buffers.proofs.BelowLaws.{below-append, bytes-ff}
 use Rattle.buffers.specs.Bytes.{eqBytes}
 use Rattle.bank.specs.declared.header.StoreHeader.{StoreHeader}
 use Rattle.bank.specs.declared.variable.VarType.the-variants.{Common}
@@ -71,7 +71,7 @@ book = record { n = 1; active = 0; slots = valid bank ∷ [] }
 
 image-bytes : Bytes image
 unfolding image
-image-bytes = bytes-append (output bank) (replicate (bankSize - 100) 255) (bytes-output bank header-fine tt) (bytes-ff (bankSize - 100))
+image-bytes = below-append (output bank) (replicate (bankSize - 100) 255) (bytes-output bank header-fine tt) (bytes-ff (bankSize - 100))
 
 image-length : length image ≡ bankSize
 unfolding image total sizes

@@ -11,7 +11,7 @@ use lib.ListN.{length, List·getD-append, getD, take, drop, take-append-drop, le
 use lib.Bits.{bitAnd, and-self, and-mask, and-comm, and-le-r}
 use lib.Seq.{take-append-le, drop-append-le, take-at, drop-at, length-take-le, drop-drop}
 use Rattle.crc32.specs.Crc32.{Bytes}
-use Rattle.crc32.proofs.ByteLaws.{bytes-append, bytes-ff, bytes-take, bytes-drop}
+use Rattle.buffers.proofs.BelowLaws.{below-append, bytes-ff, below-take, below-drop}
 use Rattle.buffers.specs.Bytes.{over}
 use Rattle.buffers.proofs.OverLaws.{length-over, drop-over, over-inside}
 use Rattle.bank.specs.Number.{u32At}
@@ -26,7 +26,7 @@ use Rattle.run.specs.Flash.{ands, erased, written}
 bytes-over : (at : ℕ) (x w : List ℕ) → Bytes x → Bytes w → Bytes (over at x w)
 unfolding over
 bytes-over at x w h k =
-    bytes-append (take at w) (x ++ drop (at + length x) w) (bytes-take at w k) (bytes-append x (drop (at + length x) w) h (bytes-drop (at + length x) w k))
+    below-append (take at w) (x ++ drop (at + length x) w) (below-take at w k) (below-append x (drop (at + length x) w) h (below-drop (at + length x) w k))
 
 -- ANDs
 

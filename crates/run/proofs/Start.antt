@@ -7,8 +7,8 @@ use native.Mathlib.Omega.{arith}
 use lib.Dec.{leb, ltb}
 use lib.ListN.{length}
 use borrow.Author.Tests.{leb-false}
+use Rattle.buffers.proofs.Laws.{by-test}
 use Rattle.bank.specs.Bank.{bankSize}
-use Rattle.bank.proofs.WalkLaws.{by-test}
 use Rattle.book.specs.Book.{partSize, FineBook}
 use Rattle.book.specs.Opening.{readSlots, anyValid, banksOf, Opened, opened, opening}
 use Rattle.book.proofs.OpenFine.{open-fine}

@@ -10,7 +10,7 @@ use lib.ListN.{length, drop, replicate, length-append, length-drop}
 use lib.Seq.{drop-drop}
 use borrow.Author.Tests.{le-leb, leb-true}
 use Rattle.crc32.specs.Crc32.{Bytes}
-use Rattle.crc32.proofs.ByteLaws.{bytes-drop}
+use Rattle.buffers.proofs.BelowLaws.{below-drop}
 use Rattle.buffers.proofs.Laws.{clash}
 use Rattle.bank.specs.Number.{u32At, le32}
 use Rattle.bank.proofs.NumberLaws.{u32-sum, u32-lt}
@@ -160,7 +160,7 @@ entry-split bs k h e = ap (λ (n : ℕ). three n (u32At bs 4) (u32At bs 8) ++ dr
 entries-split : (n : ℕ) (bs : List ℕ) → Bytes bs → entrySize * n ≤ length bs → kindsKnown n bs ≡ true → entriesBytes (entriesAt n bs) ++ drop (entrySize * n) bs ≡ bs
 unfolding kindsKnown entriesAt entriesBytes
 entries-split zero bs k h e = refl
-entries-split (suc n) bs k h e = go (leb (u32At bs 0) 2) refl (entries-split n (drop entrySize bs) (bytes-drop entrySize bs k) (omega (arith, length-drop entrySize bs))) e
+entries-split (suc n) bs k h e = go (leb (u32At bs 0) 2) refl (entries-split n (drop entrySize bs) (below-drop entrySize bs k) (omega (arith, length-drop entrySize bs))) e
   where
     go : (t : Bool) → leb (u32At bs 0) 2 ≡ t
         → (kindsKnown n (drop entrySize bs) ≡ true → entriesBytes (entriesAt n (drop entrySize bs)) ++ drop (entrySize * n) (drop entrySize bs) ≡ drop entrySize bs)
@@ -183,13 +183,13 @@ bytes-back bs s k e =
     let es = entriesBytes (entriesAt 16 (drop stateHead bs)) in
     ap (λ (x : Nvram). stored x bs) (r .is) ∙ append-assoc head es (drop stateSize bs)
     ∙ ap (λ (q : List ℕ). head ++ (es ++ q)) (sym (drop-drop (16 * entrySize) stateHead bs))
-    ∙ ap (λ (q : List ℕ). head ++ q) (entries-split 16 (drop stateHead bs) (bytes-drop stateHead bs k) (omega (arith, r .room, length-drop stateHead bs)) (r .known))
+    ∙ ap (λ (q : List ℕ). head ++ q) (entries-split 16 (drop stateHead bs) (below-drop stateHead bs k) (omega (arith, r .room, length-drop stateHead bs)) (r .known))
     ∙ three-split bs k (omega (arith, r .room))
 
 read-entries-fine : (n : ℕ) (bs : List ℕ) → Bytes bs → FineEntries (entriesAt n bs)
 unfolding entriesAt entryAt
 read-entries-fine zero bs k = tt
-read-entries-fine (suc n) bs k = ((u32-lt bs 4 k, u32-lt bs 8 k), read-entries-fine n (drop entrySize bs) (bytes-drop entrySize bs k))
+read-entries-fine (suc n) bs k = ((u32-lt bs 4 k, u32-lt bs 8 k), read-entries-fine n (drop entrySize bs) (below-drop entrySize bs k))
 
 pub read-state-fine : (bs : List ℕ) (s : Nvram) → Bytes bs → readState bs ≡ some s → FineState s
 unfolding stateAt
@@ -200,6 +200,6 @@ read-state-fine bs s k e =
       active-fits = u32-lt bs 4 k;
       tally-fits = u32-lt bs 8 k;
       banks-long = length-read 16 (drop stateHead bs);
-      banks-fine = read-entries-fine 16 (drop stateHead bs) (bytes-drop entrySize bs k);
+      banks-fine = read-entries-fine 16 (drop stateHead bs) (below-drop entrySize bs k);
     } in
     subst FineState (sym (read-is bs s e .is)) fine

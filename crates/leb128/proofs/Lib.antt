@@ -1,0 +1,4 @@
+pub mod Forms
+pub mod Decoding
+pub mod DecodeLoop
+pub mod Numbers
