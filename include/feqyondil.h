@@ -7,9 +7,10 @@
  * blocks of 65,536 bytes at the banks, and bytes that can be programmed again to clear further bits.
  *
  * Buffers. No function keeps a pointer, allocates, or reads or writes outside the buffers that it
- * is lent. A byte buffer is a pointer and a length; with length 0 the pointer is never followed and
- * may be null. Arrays have the length that their type names and must not be null. A buffer that is
- * not const must not overlap another buffer of the same call. Stored numbers are little-endian.
+ * is lent. A buffer is a pointer and a length, in bytes or, of uint32_t, in numbers; with length 0
+ * the pointer is never followed and may be null. Arrays have the length that their type names and
+ * must not be null. A buffer that is not const must not overlap another buffer of the same call.
+ * Stored numbers are little-endian.
  *
  * Threads. No function has state of its own: calls on different buffers may run at once.
  */
@@ -32,6 +33,8 @@ extern "C" {
 #define FEQYONDIL_PART_SIZE 131072u      /* work area for each bank */
 #define FEQYONDIL_STATE_SIZE 204u        /* the state */
 #define FEQYONDIL_BARREL_VALUE_MAX 512u  /* a value of the barrels' insert */
+#define FEQYONDIL_RUN_LOG_MAX 4096u      /* a log of winding runs */
+#define FEQYONDIL_RUN_LOG_ENTRIES_MAX 1364u /* entries of such a log */
 #define FEQYONDIL_CRC32_TABLE_ENTRIES 4096u /* entries, of four bytes each */
 
 /* Types of a variable. Every number other than 0 is taken as System. */
@@ -40,9 +43,9 @@ extern "C" {
 
 /*
  * Numbers of a call. All but the first refuse, and a refusal changes nothing that was lent, except
- * as feqyondil_same_settings, feqyondil_open, feqyondil_lookup, feqyondil_figures,
- * feqyondil_careful_commit, feqyondil_commit and feqyondil_whole_image say. What to do after each:
- * docs/USING.md, 'Refusals'.
+ * as feqyondil_same_settings, feqyondil_run_log_read, feqyondil_run_log_write, feqyondil_open,
+ * feqyondil_lookup, feqyondil_figures, feqyondil_careful_commit, feqyondil_commit and
+ * feqyondil_whole_image say. What to do after each: docs/USING.md, 'Refusals'.
  */
 #define FEQYONDIL_OK 0u
 #define FEQYONDIL_IMAGE_SHORT 1u   /* the image is below 65,536 bytes */
@@ -60,6 +63,9 @@ extern "C" {
 #define FEQYONDIL_BANK_OVER 13u    /* a Valid bank's total is over its size */
 #define FEQYONDIL_BANK_LENGTH 14u  /* a bank to compare is not 65,536 bytes */
 #define FEQYONDIL_VALUE_LONG 15u   /* a value of the barrels' insert is over 512 bytes */
+#define FEQYONDIL_LOG_NUMBER 16u   /* a log's number is cut off, not in its shortest form or 2^32 and more */
+#define FEQYONDIL_LOG_ORDER 17u    /* a start minute is below the one before it */
+#define FEQYONDIL_LOG_LENGTH 18u   /* bytes left over, no threes, a log over 4,096 bytes, an output too short */
 
 /* Kinds of a bank as feqyondil_partition_parse answers them; the state's kinds are below. */
 #define FEQYONDIL_SLOT_SHORT 0u   /* too few bytes were lent */
@@ -152,6 +158,43 @@ uint32_t feqyondil_bank_cause(const uint8_t *nvr, size_t nvr_len, uint64_t spot[
  */
 uint32_t feqyondil_same_settings(const uint8_t *one, size_t one_len, const uint8_t *other, size_t other_len,
                                  uint64_t same[1]);
+
+/*
+ * The log of winding runs, a value of at most 4,096 bytes: the count of entries, then three numbers
+ * for each. A number stands in groups of seven bits, lowest first, a byte each, with the top bit set
+ * on all but the last (unsigned LEB128), in its shortest form, and is below 2^32. Start minutes
+ * never fall; equal ones may follow each other. These calls know nothing of the store: what they
+ * write is a value for an insert, what they read is the value of a lookup.
+ */
+#define FEQYONDIL_RUN_NUMBERS 3u  /* numbers of an entry, which stand in a row */
+#define FEQYONDIL_RUN_START 0u    /* minute */
+#define FEQYONDIL_RUN_SECONDS 1u  /* its length */
+#define FEQYONDIL_RUN_TURNS 2u    /* of the weight */
+
+/*
+ * Reads a log: puts three numbers in a row for each entry to the front of entries, and count gets
+ * how many entries there are. Numbers of entries behind them stay. entries_len counts numbers, not
+ * bytes; with 4,092 there is room for any log.
+ *
+ * Refusals: 18 where the log is over 4,096 bytes; then, from the front, 16 for a number that is cut
+ * off, not in its shortest form or 2^32 and more (so of a log of no bytes), and 17 as soon as a start
+ * minute is read that is below the one before; then 18 for bytes left over, and 18 where entries is
+ * too short. Each leaves entries as they were; count then gets 0.
+ */
+uint32_t feqyondil_run_log_read(const uint8_t *log, size_t log_len, uint32_t *entries, size_t entries_len,
+                                uint64_t count[1]);
+
+/*
+ * Writes the log of entries, three numbers in a row for each, to the front of log; length gets how
+ * many bytes it takes. Bytes of log behind them stay; with 4,096 there is room for any log. What
+ * was written reads back as the same entries, and what was read writes back as the same bytes.
+ *
+ * Refusals: 18 where entries_len is no multiple of three; 17 where a start minute is below the one
+ * before; 18 where the log would be over 4,096 bytes, and 18 where log is too short for it. Each
+ * leaves log as it was; length then gets 0.
+ */
+uint32_t feqyondil_run_log_write(const uint32_t *entries, size_t entries_len, uint8_t *log, size_t log_len,
+                                 uint64_t length[1]);
 
 /*
  * The store. The caller lends a state and a work area to each call, as the call before left them.

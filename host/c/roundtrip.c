@@ -2,9 +2,10 @@
  * The header and the library from C: a store is opened, edited and committed until its bank moves,
  * the flash is written as the commits ask, and what is opened again has the values. What the header
  * says of null pointers, of the state's numbers, of what records come to, of a store after a move and after
- * 12, of the barrels' insert, of the settings of two banks, and of why reading a bank stopped is tried too.
+ * 12, of the barrels' insert, of the settings of two banks, of why reading a bank stopped, and of the log of
+ * winding runs is tried too.
  */
-#include "board.h"
+#include "run_log.h"
 
 #define FLASH (sizeof flash)
 #define SIZE 200u
@@ -275,6 +276,7 @@ int main(void) {
     over();
     over_carefully();
     barrels();
+    run_logs();
     nulls_of_banks();
     nulls_of_edits();
     nulls_of_flash();

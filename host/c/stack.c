@@ -15,6 +15,8 @@
 
 static uint8_t stack[STACK];
 static uint8_t value[1024];
+static uint32_t entries[FEQYONDIL_RUN_NUMBERS * FEQYONDIL_RUN_LOG_ENTRIES_MAX];
+static uint8_t run_log[FEQYONDIL_RUN_LOG_MAX];
 static uint32_t tables[FEQYONDIL_CRC32_TABLE_ENTRIES];
 static uint64_t numbers[8];
 static uint32_t answer;
@@ -47,6 +49,15 @@ static void same_settings(void) {
     answer = feqyondil_same_settings(output, FEQYONDIL_BANK_SIZE, output, FEQYONDIL_BANK_SIZE, numbers);
     check(numbers[0] == 1, "the same settings");
 }
+static void run_log_write(void) {
+    answer = feqyondil_run_log_write(entries, sizeof entries / sizeof entries[0], run_log, sizeof run_log, numbers);
+    check(numbers[0] == sizeof run_log - 2, "the log of the most entries");
+}
+/* Of the log that was written before. */
+static void run_log_read(void) {
+    answer = feqyondil_run_log_read(run_log, numbers[0], entries, sizeof entries / sizeof entries[0], numbers);
+    check(numbers[0] == FEQYONDIL_RUN_LOG_ENTRIES_MAX, "the most entries");
+}
 
 static const struct {
     const char *name;
@@ -68,6 +79,8 @@ static const struct {
     {"commit", commit},
     {"careful_commit", careful_commit},
     {"same_settings", same_settings},
+    {"run_log_write", run_log_write},
+    {"run_log_read", run_log_read},
     {"remove", remove_key},
 };
 

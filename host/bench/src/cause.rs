@@ -15,7 +15,7 @@ pub fn run(report: &mut Report) {
         ("port cause", &mut port_cause),
         ("port parse", &mut port_parse),
     ];
-    report.table_over_both("cause, full of small records", contenders, &bank(), [0.6, 1.2]);
+    report.table_over_both("cause, full of small records", contenders, &bank(), (0.6, Some(1.2)));
 }
 
 fn bank() -> Vec<u8> {

@@ -9,6 +9,7 @@ mod checksum;
 mod lent;
 mod measure;
 mod partition;
+mod run_log;
 mod settings;
 mod store;
 mod trusting;
@@ -20,7 +21,7 @@ use measure::Report;
 #[derive(Parser)]
 #[command(about = "Times the Rust and the port in turns, and says which bars the port meets")]
 struct Words {
-    /// More and longer rounds: some 150 seconds in place of 7
+    /// More and longer rounds: some 160 seconds in place of 7
     #[arg(long)]
     long: bool,
 }
@@ -39,6 +40,7 @@ fn main() {
     show("bank", partition::run);
     show("cause", cause::run);
     show("settings", settings::run);
+    show("run log", run_log::run);
     show("store", store::run);
     show("commit", store::run_commits);
 }

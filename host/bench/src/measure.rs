@@ -94,20 +94,21 @@ impl Report {
         figures
     }
 
-    /// Keeps for the end what is to be said of the port's time over the Rust's.
-    /// The same for the Rust, the port, and what the port takes for less: a bar over either.
+    /// The same for the Rust, the port, and what does less: a bar over the first, and one over the
+    /// third if it has any.
     pub fn table_over_both(
         &mut self,
         title: &str,
         mut contenders: [Contender; 3],
         input: &[u8],
-        [rust, less]: [f64; 2],
+        (rust, less): (f64, Option<f64>),
     ) {
         let figures = self.table(title, &mut contenders, input, Some(rust));
         let name = format!("{title}, over {}", contenders[2].0);
-        self.bar(&name, &figures[1], &figures[2], Some(less));
+        self.bar(&name, &figures[1], &figures[2], less);
     }
 
+    /// Keeps for the end what is to be said of the port's time over the Rust's.
     pub fn bar(&mut self, name: &str, port: &Figures, rust: &Figures, bar: Option<f64>) {
         let [least, ratio, most] = port.over(rust).spread();
         let (word, end) = match bar {

@@ -15,7 +15,7 @@ pub fn run(report: &mut Report) {
         ("port parse, of each bank", &mut port_parse),
     ];
     let name = "same settings, full of small records";
-    report.table_over_both(name, contenders, &banks(), [0.6, 1.3]);
+    report.table_over_both(name, contenders, &banks(), (0.6, Some(1.3)));
 }
 
 /// The second has 255 in its reserved and closing bytes.

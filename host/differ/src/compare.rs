@@ -4,6 +4,7 @@ mod any_state;
 mod banks;
 mod checksum;
 mod cuts;
+mod run_log;
 mod runs;
 mod settings;
 
@@ -20,6 +21,8 @@ pub fn all(judge: &mut Judge) -> Result<(), String> {
     judge.hold(&checksum::Checksum::new())?;
     judge.hold(&banks::Banks::new(lent::read, bank_cause))?;
     judge.hold(&settings::Settings { port: settings::port, cause: bank_cause })?;
+    judge.hold(&run_log::Reader { port: run_log::Port::default() })?;
+    judge.hold(&run_log::Writer { port: run_log::Port::default() })?;
     judge.hold(&runs::Runs { port })?;
     judge.hold(&any_state::AnyState { port })?;
     judge.hold(&Strikes { port })?;

@@ -6,8 +6,10 @@ mod bytes;
 mod call;
 mod change;
 mod damage;
+mod entries;
 pub mod image;
 mod list;
+mod log;
 mod pair;
 mod plan;
 mod run;
@@ -20,6 +22,11 @@ pub use bytes::{content, Bytes};
 pub use call::{Call, Reach};
 pub use change::{Behind, Change, RecordField, HEADER_FIELDS, RECORD_FIELDS};
 pub use damage::{Damage, Place};
+pub use entries::{At, Entries, Fall, Fill, BOUNDARIES};
+pub use log::{
+    bytes_to_read, entries_to_write, log_to_read, ByteDamage, Log, NumberDamage, WithOutput,
+    NO_ROOM, TELLING,
+};
 pub use pair::{pair, Other, Pair};
 pub use plan::{plan, Action, Plan, SPARE};
 pub use run::{run, Run};

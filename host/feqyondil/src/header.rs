@@ -64,7 +64,7 @@ fn each_number_is_the_headers() {
 }
 
 fn refusals(defined: &mut Defined) {
-    let (from, to) = (defined.place("OK"), defined.place("VALUE_LONG"));
+    let (from, to) = (defined.place("OK"), defined.place("LOG_LENGTH"));
     let (ok, named) = (defined.0[from], &defined.0[from + 1..=to]);
     assert_eq!(Refusal::check(ok.1), Ok(()));
     let named: Vec<_> = named.iter().map(|&(name, n)| (camel(name), n)).collect();
@@ -83,6 +83,12 @@ fn sizes(defined: &mut Defined) {
         ("PART_SIZE", PART_SIZE),
         ("STATE_SIZE", STATE_SIZE),
         ("BARREL_VALUE_MAX", BARREL_VALUE_MAX),
+        ("RUN_LOG_MAX", RUN_LOG_MAX),
+        ("RUN_LOG_ENTRIES_MAX", RUN_LOG_ENTRIES_MAX),
+        ("RUN_NUMBERS", RUN_NUMBERS),
+        ("RUN_START", RUN_START),
+        ("RUN_SECONDS", RUN_SECONDS),
+        ("RUN_TURNS", RUN_TURNS),
         ("CRC32_TABLE_ENTRIES", CRC32_TABLE_ENTRIES),
         ("STATE_BANKS", STATE_BANKS),
         ("STATE_ACTIVE", STATE_ACTIVE),

@@ -4,7 +4,8 @@
 //! of the flash; the caller erases and writes. Every buffer is the caller's: [`PART_SIZE`] bytes of
 //! work area for each bank, [`BANK_SIZE`] bytes of output for a commit. [`lent`] has the same calls
 //! on any bytes, with numbers, as C has them. [`same_settings`] compares two banks; [`bank_cause`]
-//! says why reading a bank stopped. Calls on different buffers may run at once.
+//! says why reading a bank stopped. [`run_log_read`] and [`run_log_write`] are for a value that is a
+//! log of winding runs. Calls on different buffers may run at once.
 //!
 //! It links libfeqyondil.a, for x86-64, from the folder that the environment variable FEQYONDIL_LIB
 //! names, else from dist/ of the repository, where `make lib` puts it.
@@ -27,6 +28,7 @@ mod header;
 pub mod lent;
 mod partition;
 mod refusal;
+mod run_log;
 #[cfg(test)]
 mod samples;
 mod settings;
@@ -39,6 +41,7 @@ pub use commit::{Commit, NotCommitted};
 pub use figures::Figures;
 pub use partition::{partition_parse, partition_serialize, Partition, Slot};
 pub use refusal::Refusal;
+pub use run_log::{run_log_read, run_log_write, RUN_NUMBERS, RUN_SECONDS, RUN_START, RUN_TURNS};
 pub use settings::same_settings;
 pub use state::{Entry, Kind};
 pub use store::{Store, VarType};
@@ -55,5 +58,9 @@ pub const PART_SIZE: usize = 131_072;
 pub const STATE_SIZE: usize = 204;
 /// Most bytes of a value of the barrels' insert.
 pub const BARREL_VALUE_MAX: usize = 512;
+/// Most bytes of a log of winding runs.
+pub const RUN_LOG_MAX: usize = 4096;
+/// Most entries of such a log.
+pub const RUN_LOG_ENTRIES_MAX: usize = 1364;
 /// Entries of the checksum's tables, of four bytes each.
 pub const CRC32_TABLE_ENTRIES: usize = 4096;

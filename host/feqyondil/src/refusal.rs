@@ -50,6 +50,9 @@ refusals! {
     BankOver = 13, "a Valid bank's total is over its size";
     BankLength = 14, "a bank to compare is not 65,536 bytes";
     ValueLong = 15, "a value of the barrels' insert is over 512 bytes";
+    LogNumber = 16, "a log's number is cut off, not in its shortest form or 2^32 and more";
+    LogOrder = 17, "a start minute is below the one before it";
+    LogLength = 18, "bytes left over, no threes, a log over 4,096 bytes, an output too short";
 }
 
 impl Refusal {

@@ -6,6 +6,7 @@ mod careful;
 mod causes;
 mod faults;
 mod figures;
+mod run_log;
 mod settings;
 
 use feqyondil::bank_cause;

@@ -65,10 +65,10 @@ impl Settings {
     fn lent(&self, input: &Pair, one: &[u8], other: &[u8]) -> Result<(Answer, Causes), String> {
         let [first, second] = input.standing;
         let lent = [Buffer::new(one, first), Buffer::new(other, second)];
-        let answer = (self.port)(lent[0].bytes(), lent[1].bytes());
+        let answer = (self.port)(lent[0].slice(), lent[1].slice());
         let mut causes = Causes::default();
         for buffer in &lent {
-            causes += cause::compare_all(self.cause, buffer.bytes())?;
+            causes += cause::compare_all(self.cause, buffer.slice())?;
         }
         match lent[0].still_holds(one) && lent[1].still_holds(other) {
             true => Ok((answer, causes)),

@@ -38,7 +38,7 @@ pub fn compare(case: &Case, port: Port, standing: Standing) -> Result<bool, Stri
         let parting = parting(&said, &has);
         return Err(format!("\n  01:   {said}\n  port: {has}{parting}"));
     }
-    same_state(&state, lent.state.bytes(), "port")?;
-    same_work(&work, lent.work.bytes(), "port")?;
+    same_state(&state, lent.state.slice(), "port")?;
+    same_work(&work, lent.work.slice(), "port")?;
     Ok(sound)
 }

@@ -161,8 +161,8 @@ impl<'a> Sides<'a> {
 
     /// The port's state and work area, every byte that was lent.
     fn same(&self, lent: &Lent) -> Result<(), String> {
-        same_state(&self.state, lent.state.bytes(), "port")?;
-        same_work(&self.work, lent.work.bytes(), "port")
+        same_state(&self.state, lent.state.slice(), "port")?;
+        same_work(&self.work, lent.work.slice(), "port")
     }
 
     /// The Rust's active bank after an edit or a commit, by its records.

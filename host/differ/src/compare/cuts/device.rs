@@ -79,7 +79,7 @@ impl Device {
 
     /// An edit that leaves the live records within the bank's size.
     fn edit(&mut self, call: &describe::Call) -> Result<(), String> {
-        let book = sound::book(self.store.state.bytes(), self.store.work.bytes());
+        let book = sound::book(self.store.state.slice(), self.store.work.slice());
         self.ask(&call.made(book.as_ref(), Reach::Size))
     }
 
@@ -89,14 +89,14 @@ impl Device {
     }
 
     fn state(&self) -> State {
-        State::read(self.store.state.bytes()).expect("a state's bytes")
+        State::read(self.store.state.slice()).expect("a state's bytes")
     }
 
     /// The active bank's entry, and the size in its header.
     fn active(&self) -> (Entry, u32) {
         let state = self.state();
         let active = state.active as usize;
-        let size = number(self.store.work.bytes(), active * PART + 4);
+        let size = number(self.store.work.slice(), active * PART + 4);
         (state.entries[active], size)
     }
 

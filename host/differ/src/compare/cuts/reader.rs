@@ -93,7 +93,7 @@ fn answers(keys: &[Vec<u8>], store: &mut Lent) -> Result<Option<Answers>, String
             let Answer::Lookup(0, [found, place, length]) = store.ask(&lookup)? else {
                 return Ok(None);
             };
-            let value = &store.work.bytes()[place as usize..(place + length) as usize];
+            let value = &store.work.slice()[place as usize..(place + length) as usize];
             values.push((found == 1).then(|| value.to_vec()));
         }
     }
@@ -103,8 +103,8 @@ fn answers(keys: &[Vec<u8>], store: &mut Lent) -> Result<Option<Answers>, String
 
 /// The active bank's bytes in the work area, header and all records.
 fn active(store: &Lent) -> Vec<u8> {
-    let state = State::read(store.state.bytes()).expect("a state's bytes");
+    let state = State::read(store.state.slice()).expect("a state's bytes");
     let active = state.active as usize;
     let total = state.entries[active].total as usize;
-    store.work.bytes()[active * PART..active * PART + total].to_vec()
+    store.work.slice()[active * PART..active * PART + total].to_vec()
 }

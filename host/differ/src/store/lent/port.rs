@@ -42,43 +42,43 @@ pub enum Standing {
     Alone,
 }
 
-/// A buffer to lend.
-pub struct Buffer {
-    whole: Box<[u8]>,
+/// A buffer to lend, of bytes or of numbers.
+pub struct Buffer<T = u8> {
+    whole: Box<[T]>,
     from: usize,
     to: usize,
 }
 
-impl Buffer {
-    pub fn new(bytes: &[u8], standing: Standing) -> Self {
+impl<T: Copy + PartialEq + From<u8>> Buffer<T> {
+    pub fn new(lent: &[T], standing: Standing) -> Self {
         let (before, after) = match standing {
             Standing::Guarded(start) => (GUARD + start, GUARD),
             Standing::Alone => (0, 0),
         };
-        let mut whole = Vec::with_capacity(before + bytes.len() + after);
-        whole.resize(before, BEFORE);
-        whole.extend_from_slice(bytes);
-        whole.resize(before + bytes.len() + after, BEFORE);
-        Buffer { whole: whole.into_boxed_slice(), from: before, to: before + bytes.len() }
+        let mut whole = Vec::with_capacity(before + lent.len() + after);
+        whole.resize(before, BEFORE.into());
+        whole.extend_from_slice(lent);
+        whole.resize(before + lent.len() + after, BEFORE.into());
+        Buffer { whole: whole.into_boxed_slice(), from: before, to: before + lent.len() }
     }
 
-    pub fn bytes(&self) -> &[u8] {
+    pub fn slice(&self) -> &[T] {
         &self.whole[self.from..self.to]
     }
 
-    pub fn bytes_mut(&mut self) -> &mut [u8] {
+    pub fn slice_mut(&mut self) -> &mut [T] {
         &mut self.whole[self.from..self.to]
     }
 
     /// Nobody wrote before or behind it.
     pub fn intact(&self) -> bool {
         let mut guards = self.whole[..self.from].iter().chain(&self.whole[self.to..]);
-        guards.all(|&b| b == BEFORE)
+        guards.all(|&b| b == BEFORE.into())
     }
 
-    /// The same, and it holds these bytes.
-    pub fn still_holds(&self, bytes: &[u8]) -> bool {
-        self.intact() && self.bytes() == bytes
+    /// The same, and it holds what was lent.
+    pub fn still_holds(&self, lent: &[T]) -> bool {
+        self.intact() && self.slice() == lent
     }
 }
 
@@ -106,9 +106,9 @@ impl Lent {
     /// The port also names why the reading of each bank stopped, as 01 does.
     pub fn open(&mut self, image: &[u8]) -> Result<u32, String> {
         let (lent, before) = (Buffer::new(image, self.standing), self.before());
-        let (state, work) = (self.state.bytes_mut(), self.work.bytes_mut());
-        let number = feqyondil::lent::open(lent.bytes(), state, work);
-        self.causes += compare_all(self.port.cause, lent.bytes())?;
+        let (state, work) = (self.state.slice_mut(), self.work.slice_mut());
+        let number = feqyondil::lent::open(lent.slice(), state, work);
+        self.causes += compare_all(self.port.cause, lent.slice())?;
         self.untouched(&[(&lent, image)])?;
         match self.done(None, before, Answer::Number(number)) {
             Answer::Number(number) => Ok(number),
@@ -118,8 +118,8 @@ impl Lent {
 
     pub fn ask(&mut self, call: &Call) -> Result<Answer, String> {
         let (key, before) = (Buffer::new(&call.key, self.standing), self.before());
-        let (state, work) = (self.state.bytes_mut(), self.work.bytes_mut());
-        let (lent_key, typ) = (key.bytes(), call.typ);
+        let (state, work) = (self.state.slice_mut(), self.work.slice_mut());
+        let (lent_key, typ) = (key.slice(), call.typ);
         let answer = match &call.what {
             What::Insert(manner, value) => {
                 let insert = match manner {
@@ -127,7 +127,7 @@ impl Lent {
                     Manner::Barrel => feqyondil::lent::barrel_insert,
                 };
                 let lent = Buffer::new(value, self.standing);
-                let number = insert(state, work, lent_key, lent.bytes(), typ);
+                let number = insert(state, work, lent_key, lent.slice(), typ);
                 self.untouched(&[(&lent, value)])?;
                 Answer::Number(number)
             }
@@ -152,8 +152,8 @@ impl Lent {
 
     fn with_room(&mut self, call: &Call, key: &Buffer, room: usize) -> Result<Answer, String> {
         let mut lent = Buffer::new(&vec![ROOM; room], self.standing);
-        let (state, work) = (self.state.bytes_mut(), self.work.bytes_mut());
-        let out = lent.bytes_mut();
+        let (state, work) = (self.state.slice_mut(), self.work.slice_mut());
+        let out = lent.slice_mut();
         let mut answer = match call.what {
             What::Commit(way, _) => {
                 let commit = match way {
@@ -169,18 +169,18 @@ impl Lent {
                 Answer::Whole(number, length, Vec::new())
             }
             _ => {
-                let length = feqyondil::lent::value(state, work, key.bytes(), call.typ, out);
+                let length = feqyondil::lent::value(state, work, key.slice(), call.typ, out);
                 Answer::Value(length, Vec::new())
             }
         };
-        self.untouched(&[(&lent, lent.bytes())])?;
-        *answer.room_mut().expect("a room") = lent.bytes().to_vec();
+        self.untouched(&[(&lent, lent.slice())])?;
+        *answer.room_mut().expect("a room") = lent.slice().to_vec();
         Ok(answer)
     }
 
     /// State and work area, where a fault may ask for them.
     fn before(&self) -> Option<(Vec<u8>, Vec<u8>)> {
-        let both = || (self.state.bytes().to_vec(), self.work.bytes().to_vec());
+        let both = || (self.state.slice().to_vec(), self.work.slice().to_vec());
         self.port.fault.map(|_| both())
     }
 
@@ -193,7 +193,7 @@ impl Lent {
         let (Some(fault), Some(before)) = (self.port.fault, before) else {
             return answer;
         };
-        let (state, work) = (self.state.bytes_mut(), self.work.bytes_mut());
+        let (state, work) = (self.state.slice_mut(), self.work.slice_mut());
         let mut done = Done { call, before, state, work, answer };
         fault(&mut done);
         done.answer
@@ -235,7 +235,7 @@ mod tests {
             assert!(!buffer.intact(), "at {at}");
         }
         let mut alone = Buffer::new(&[1, 2, 3], Standing::Alone);
-        assert_eq!(alone.bytes_mut(), [1, 2, 3]);
+        assert_eq!(alone.slice_mut(), [1, 2, 3]);
         assert_eq!(alone.whole.len(), 3);
     }
 }

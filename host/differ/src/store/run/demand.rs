@@ -112,7 +112,7 @@ impl Watch {
     fn counted(&mut self, port: &Answer, lent: &Lent) -> Result<(), String> {
         let asked = u32::from(erase(port).is_some());
         self.requests = self.requests.saturating_add(asked);
-        let told = State::read(lent.state.bytes()).map(|state| state.tally);
+        let told = State::read(lent.state.slice()).map(|state| state.tally);
         if told == Some(self.requests) {
             return Ok(());
         }

@@ -66,8 +66,8 @@ pub fn reopen(flash: &Flash, book: &Book, left: &mut Lent) -> Result<Book, Strin
     if number != 0 {
         return Err(format!("\n  the flash reopens with {number}"));
     }
-    same_state(&again.state().bytes(), lent.state.bytes(), "port")?;
-    same_work(&again.work(), lent.work.bytes(), "port")?;
+    same_state(&again.state().bytes(), lent.state.slice(), "port")?;
+    same_work(&again.work(), lent.work.slice(), "port")?;
     for call in lookups(book) {
         let said = book.lookup(&call);
         let (now, then) = (left.ask(&call)?, lent.ask(&call)?);
