@@ -1,6 +1,6 @@
 -- Bytes put over others: where they stand, one run behind another, and what the code's writes come to.
 use Prim.Native.Nat.{ℕ, suc, _+_, _-_, _≤_, _<_}
-use mathlib.Core.Path.{_≡_, sym, ap, ap₂, _∙_}
+use mathlib.Core.Path.{_≡_, refl, sym, ap, ap₂, _∙_}
 use mathlib.Core.List.{List, [], _∷_, _++_, append-assoc, append-nil}
 use native.Mathlib.Omega.{arith}
 use lib.ListN.{length, set, take, drop, take-append-drop, drop-of-length-le, length-append, length-drop}
@@ -72,6 +72,11 @@ over-over at p x y w e h =
 pub over-set : (at b : ℕ) (w : List ℕ) → at < length w → set w at b ≡ over at (b ∷ []) w
 unfolding over
 over-set at b w h = let e : suc at ≡ at + 1 = omega arith in set-split w at b h ∙ ap (λ (n : ℕ). take at w ++ (b ∷ drop n w)) e
+
+-- and those behind it
+pub over-cons : (at b : ℕ) (x w : List ℕ) → at + suc (length x) ≤ length w → over at (b ∷ x) w ≡ over (at + 1) x (set w at b)
+over-cons at b x w h =
+    sym (ap (over (at + 1) x) (over-set at b w (omega arith)) ∙ over-over at (at + 1) (b ∷ []) x w refl (omega arith))
 
 -- the part from a place on, lent and given back as y
 pub put-tail : (at : ℕ) (w y : List ℕ) → take at w ++ (y ++ drop (length w - at) (drop at w)) ≡ take at w ++ y

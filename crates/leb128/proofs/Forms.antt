@@ -7,7 +7,7 @@ use native.Mathlib.Omega.{arith}
 use lib.Dec.{ltb}
 use lib.ListN.{length}
 use borrow.Author.Tests.{lt-ltb, le-ltb, ltb-true, ltb-false}
-use Rattle.leb128.specs.Leb128.{Groups, last-group, group, encodedBy, encoded}
+use Rattle.leb128.specs.Leb128.{encodedBy, encoded}
 
 enough : (a b n : ℕ) → n ≤ a → n ≤ b → encodedBy a n ≡ encodedBy b n
 unfolding encodedBy
@@ -60,6 +60,11 @@ group-large g n l h =
     let p : (g + 128 * n) % 128 ≡ g = omega arith in
     let q : (g + 128 * n) / 128 ≡ n = omega arith in
     encoded-large (g + 128 * n) h ∙ ap₂ (λ (a b : ℕ). (128 + a) ∷ encoded b) p q
+
+-- the bytes x are a form of the number n: groups of seven bits, lowest first, the top bit set on all but the last, however many
+pub data Groups : List ℕ → ℕ → Type 0 where
+  last-group : {g : ℕ} → g < 128 → Groups (g ∷ []) g
+  group : {g n : ℕ} {x : List ℕ} → g < 128 → Groups x n → Groups ((128 + g) ∷ x) (g + 128 * n)
 
 -- the shortest form is one
 pub encoded-groups : (n : ℕ) → Groups (encoded n) n

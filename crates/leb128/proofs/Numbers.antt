@@ -1,13 +1,13 @@
 -- Numbers, one after another: their bytes and lengths, and the loops that decode and encode them.
 use Prim.Native.Nat.{ℕ, zero, suc, _+_, _-_, _/_, _%_, _≤_, _<_}
-use mathlib.Core.Path.{_≡_, refl, sym, ap, _∙_}
+use mathlib.Core.Path.{_≡_, sym, ap, _∙_}
 use mathlib.Core.List.{List, [], _∷_, _++_}
 use native.Mathlib.Numerals.{add-one}
 use native.Mathlib.Omega.{arith}
 use lib.ListN.{length, getD, set, drop, length-append, drop-of-length-le}
 use lib.Seq.{drop-cons, drop-drop}
 use Rattle.buffers.specs.Bytes.{over}
-use Rattle.buffers.proofs.OverLaws.{over-none, length-over, over-over, over-set}
+use Rattle.buffers.proofs.OverLaws.{over-none, length-over, over-over, over-set, over-cons}
 use Rattle.leb128.specs.declared.Decoded.the-variants.{Malformed, Number}
 use Rattle.leb128.specs.Leb128.{encoded, encodedAll, decoded, byNumber, decodedAll}
 use Rattle.leb128.proofs.Forms.{encoded-small, encoded-large, size-some}
@@ -35,11 +35,6 @@ module _ (ns : List ℕ) (i : ℕ) where
 
   pub sizes-none : length ns ≤ i → length (encodedAll (drop i ns)) ≡ 0
   sizes-none h = ap length (all-none h)
-
--- one byte put, and those behind it
-over-cons : (at x : ℕ) (xs w : List ℕ) → at + suc (length xs) ≤ length w → over at (x ∷ xs) w ≡ over (at + 1) xs (set w at x)
-over-cons at x xs w h =
-    sym (ap (over (at + 1) xs) (over-set at x w (omega arith)) ∙ over-over at (at + 1) (x ∷ []) xs w refl (omega arith))
 
 -- a number's groups, one after another
 pub encode-more : (p n : ℕ) (w : List ℕ) → 128 ≤ n → p + length (encoded n) ≤ length w

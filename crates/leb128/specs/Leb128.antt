@@ -1,16 +1,11 @@
 -- Numbers in groups of seven bits, lowest first, with the top bit set on all but the last group (02, N6): unsigned LEB128.
-use Prim.Native.Nat.{ℕ, zero, suc, _+_, _-_, _*_, _/_, _%_, _<_}
+use Prim.Native.Nat.{ℕ, zero, suc, _+_, _-_, _*_, _/_, _%_}
 use mathlib.Core.List.{List, [], _∷_, _++_}
 use mathlib.Core.Bool.{cond}
 use lib.Dec.{eqb, ltb}
 use lib.ListN.{drop}
 use Rattle.leb128.specs.declared.Decoded.{Decoded}
 use Rattle.leb128.specs.declared.Decoded.the-variants.{Malformed, Number}
-
--- the bytes x are the number n in such groups, however many
-pub data Groups : List ℕ → ℕ → Type 0 where
-  last-group : {g : ℕ} → g < 128 → Groups (g ∷ []) g
-  group : {g n : ℕ} {x : List ℕ} → g < 128 → Groups x n → Groups ((128 + g) ∷ x) (g + 128 * n)
 
 -- with so many divisions at most
 unfoldable pub encodedBy : ℕ → ℕ → List ℕ

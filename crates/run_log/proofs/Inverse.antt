@@ -2,14 +2,14 @@
 use Prim.Native.Nat.{ℕ, zero, suc, _+_, _*_, _/_, _≤_}
 use mathlib.Core.Path.{_≡_, refl, sym, ap, _∙_}
 use mathlib.Core.List.{List, [], _∷_, _++_}
-use mathlib.Core.Bool.{Bool, true, false, _||_}
+use mathlib.Core.Bool.{false}
 use native.Mathlib.Omega.{arith}
 use lib.ListN.{length, drop, length-append, length-drop}
 use lib.Seq.{drop-drop, drop-at}
 use borrow.Author.Tests.{ltb-false}
 use Rattle.buffers.specs.Bytes.{AllBelow}
 use Rattle.buffers.proofs.BelowLaws.{below-drop}
-use Rattle.buffers.proofs.Laws.{clash}
+use Rattle.buffers.proofs.Laws.{neither}
 use Rattle.leb128.specs.declared.Decoded.the-variants.{Number}
 use Rattle.leb128.specs.Leb128.{encoded, encodedAll, decoded}
 use Rattle.leb128.proofs.Forms.{by-size, size-some, size-large}
@@ -36,10 +36,6 @@ read-write s ns h e =
     let t = shown (log-shows s) e in
     let b = taken-bytes h t in
     write-gives ns (omega (arith, t .entered .threes)) (t .entered .rises) (omega (arith, ap length b, t .size)) ∙ ap gives (sym b)
-
-neither : (x y : Bool) → (x || y) ≡ false → (x ≡ false) × (y ≡ false)
-neither true y h = clash (cc)
-neither false y h = (refl, h)
 
 entries-back : (count last : ℕ) (ns : List ℕ) → AllBelow 4294967296 ns → length ns ≡ 3 * count → falls last ns ≡ false
     → readEntries count last (encodedAll ns) ≡ gives ns

@@ -58,20 +58,25 @@ unfolding answerOf
 accepted-gives unit {a = a} l (is-refused {k} h) e z = absurd (let n : a .number ≡ k = ap (λ (c : Counted). c .number) e in omega arith)
 accepted-gives unit l (is-given {ys} h) e z = (ys, refl)
 
+-- any other number: nothing was
+refused-by : (unit : ℕ) (r : Result) {a : Counted} → a ≡ answerOf unit r → (a .number ≡ 0 → ⊥) → (k : ℕ) × (r ≡ refusedBy k)
+unfolding answerOf
+refused-by unit (refusedBy k) e h = (k, refl)
+refused-by unit (gives xs) e h = absurd (h (ap (λ (c : Counted). c .number) e))
+
 -- a refusal leaves the output
 pub refused-answered : (unit : ℕ) {r : Result} {k : ℕ} (out : List ℕ) → r ≡ refusedBy k → Answered unit r out (record { number = k; count = 0 }) out
-unfolding answerOf given
-refused-answered unit out e = rw e (record { answer = refl; output = refl })
-
-pub refused-stays : (unit : ℕ) (r : Result) {out out′ : List ℕ} {a : Counted} → Answered unit r out a out′ → (a .number ≡ 0 → ⊥) → out′ ≡ out
-unfolding answerOf given
-refused-stays unit (refusedBy k) h n = h .output
-refused-stays unit (gives xs) h n = absurd (n (ap (λ (a : Counted). a .number) (h .answer)))
+unfolding given
+refused-answered unit out e = record { answer = sym (answer-refused unit e); output = rw e refl }
 
 pub refused-judged : (unit room : ℕ) (r : Result) {a : Counted} (out : List ℕ) → a ≡ answerOf unit r → (a .number ≡ 0 → ⊥) → Answered unit (fit room r) out a out
-unfolding fit answerOf given
-refused-judged unit room (refusedBy k) out e h = record { answer = e; output = refl }
-refused-judged unit room (gives xs) out e h = absurd (h (ap (λ (c : Counted). c .number) e))
+refused-judged unit room r out e h =
+    let f = refused-by unit r e h in
+    rw (e ∙ answer-refused unit (f .1)) (refused-answered unit out (fit-refused room (f .1)))
+
+pub refused-stays : (unit : ℕ) (r : Result) {out out′ : List ℕ} {a : Counted} → Answered unit r out a out′ → (a .number ≡ 0 → ⊥) → out′ ≡ out
+unfolding given
+refused-stays unit r {out} h n = h .output ∙ ap (λ (x : Result). given x out) (refused-by unit r (h .answer) n .1)
 
 -- what is given stands in front, and what stands behind it stays
 pub gives-answered : (unit : ℕ) {r : Result} {xs out out′ : List ℕ} {a : Counted} → r ≡ gives xs → a ≡ answerOf unit (gives xs) → out′ ≡ over 0 xs out → Answered unit r out a out′

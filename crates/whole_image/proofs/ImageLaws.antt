@@ -2,13 +2,14 @@
 use Prim.Native.Nat.{ℕ, zero, suc, _+_, _*_, _-_, _≤_, _<_}
 use mathlib.Core.Path.{_≡_, refl, sym, ap, ap₂, _∙_}
 use mathlib.Core.List.{List, [], _∷_, _++_, append-assoc, append-nil}
-use mathlib.Core.Bool.{Bool, true, false, _||_, true≢false}
+use mathlib.Core.Bool.{Bool, true, false, _||_}
 use native.Mathlib.Omega.{arith}
 use lib.Dec.{ltb}
 use lib.ListN.{length, getD, take, drop, replicate, length-append, length-drop, drop-of-length-le}
 use lib.Seq.{take-at, drop-at, take-all, drop-cons, drop-drop, length-take-le, set-getD}
 use borrow.Author.Tests.{lt-ltb, le-ltb, ltb-false}
 use Rattle.buffers.specs.Bytes.{onto, over}
+use Rattle.buffers.proofs.Laws.{neither}
 use Rattle.buffers.proofs.OverLaws.{over-copy}
 use Rattle.bank.specs.declared.header.Head.{Head}
 use Rattle.bank.specs.declared.header.Head.the-variants.{Good, Signature, Version, Size}
@@ -142,11 +143,6 @@ unfolding anyOverfull
 passed {ss = ss} s {i} h p = ap anyOverfull (sym (drop-of-length-le ss {i = i} (omega (arith, s .long)))) ∙ p .same
 
 -- the image so far
-
-neither : (a b : Bool) → (a || b) ≡ false → (a ≡ false) × (b ≡ false)
-neither false b e = (refl, e)
-neither true b e = absurd (true≢false e)
-
 none-at : (ss : List Slot) (i : ℕ) → anyOverfull ss ≡ false → overfull (getD ss i invalid) ≡ false
 unfolding anyOverfull overfull
 none-at [] i e = refl
