@@ -25,13 +25,13 @@ extern "C" {
 #endif
 
 /* Raised with each change of a prototype or of the state's layout: docs/CHANGES.md. */
-#define FEQYONDIL_VERSION 1u
+#define FEQYONDIL_VERSION 2u
 
 /* Sizes, in bytes. */
 #define FEQYONDIL_BANK_SIZE 65536u       /* one bank of an image */
 #define FEQYONDIL_BANKS_MAX 16u          /* banks of an image */
 #define FEQYONDIL_PART_SIZE 131072u      /* work area for each bank */
-#define FEQYONDIL_STATE_SIZE 204u        /* the state */
+#define FEQYONDIL_STATE_SIZE 208u        /* the state */
 #define FEQYONDIL_BARREL_VALUE_MAX 512u  /* a value of the barrels' insert */
 #define FEQYONDIL_RUN_LOG_MAX 4096u      /* a log of winding runs */
 #define FEQYONDIL_RUN_LOG_ENTRIES_MAX 1364u /* entries of such a log */
@@ -41,11 +41,15 @@ extern "C" {
 #define FEQYONDIL_COMMON 0u
 #define FEQYONDIL_SYSTEM 1u
 
+/* Callers of a commit. Every number other than 0 is taken as the barrel. */
+#define FEQYONDIL_CLOCK 0u
+#define FEQYONDIL_BARREL 1u
+
 /*
  * Numbers of a call. All but the first refuse, and a refusal changes nothing that was lent, except
  * as feqyondil_same_settings, feqyondil_run_log_read, feqyondil_run_log_write, feqyondil_open,
- * feqyondil_lookup, feqyondil_figures, feqyondil_careful_commit, feqyondil_commit and
- * feqyondil_whole_image say. What to do after each: docs/USING.md, 'Refusals'.
+ * feqyondil_tally, feqyondil_lookup, feqyondil_figures, feqyondil_careful_commit, feqyondil_commit
+ * and feqyondil_whole_image say. What to do after each: docs/USING.md, 'Refusals'.
  */
 #define FEQYONDIL_OK 0u
 #define FEQYONDIL_IMAGE_SHORT 1u   /* the image is below 65,536 bytes */
@@ -197,20 +201,22 @@ uint32_t feqyondil_run_log_write(const uint32_t *entries, size_t entries_len, ui
                                  uint64_t length[1]);
 
 /*
- * The store. The caller lends a state and a work area to each call, as the call before left them.
+ * The store. A program lends a state and a work area to each call, as the call before left them.
  * They hold no pointers: between two calls they may be copied elsewhere.
  *
- * The state's first 204 bytes are numbers of four bytes: how many banks there are, which is active,
- * the tally of erase requests, then 16 entries, one for each bank. Later bytes are ignored and left.
- * Every call but feqyondil_open refuses by 6 where fewer bytes are lent, where an entry's kind is
- * none of the three, and where state and work area are not sound.
+ * The state's first 208 bytes are numbers of four bytes: how many banks there are, which is active,
+ * the two callers' tallies of erase requests, then 16 entries, one for each bank. Later bytes are
+ * ignored and left. Every call but feqyondil_open refuses by 6 where fewer bytes are lent, where an
+ * entry's kind is none of the three, and, feqyondil_tally apart, where state and work area are not
+ * sound. Any two tallies are sound.
  *
  * The work area is 131,072 bytes for each bank. Later bytes are ignored and left.
  */
-#define FEQYONDIL_STATE_BANKS 0u    /* n, the number of banks */
-#define FEQYONDIL_STATE_ACTIVE 4u   /* the active one, counted from 0 */
-#define FEQYONDIL_STATE_TALLY 8u    /* erase requests since the opening, up to 4,294,967,295 */
-#define FEQYONDIL_STATE_ENTRIES 12u /* bank i's is FEQYONDIL_ENTRY_SIZE * i bytes behind */
+#define FEQYONDIL_STATE_BANKS 0u         /* n, the number of banks */
+#define FEQYONDIL_STATE_ACTIVE 4u        /* the active one, counted from 0 */
+#define FEQYONDIL_STATE_CLOCK_TALLY 8u   /* erase requests in the clock's commits, up to 4,294,967,295 */
+#define FEQYONDIL_STATE_BARREL_TALLY 12u /* those in the barrel's */
+#define FEQYONDIL_STATE_ENTRIES 16u      /* bank i's is FEQYONDIL_ENTRY_SIZE * i bytes behind */
 #define FEQYONDIL_ENTRY_SIZE 12u
 
 /* Places in an entry; total and usable are 0 unless the bank is Valid. */
@@ -223,7 +229,7 @@ uint32_t feqyondil_run_log_write(const uint32_t *entries, size_t entries_len, ui
 #define FEQYONDIL_KIND_INVALID 1u
 #define FEQYONDIL_KIND_VALID 2u
 
-/* The number of a state at one of these offsets, as in feqyondil_state_number(state, FEQYONDIL_STATE_TALLY). */
+/* The number of a state at one of these offsets, as in feqyondil_state_number(state, FEQYONDIL_STATE_ACTIVE). */
 static inline uint32_t feqyondil_state_number(const uint8_t *state, size_t offset) {
     const uint8_t *four = state + offset;
     return (uint32_t)four[0] | (uint32_t)four[1] << 8 | (uint32_t)four[2] << 16 | (uint32_t)four[3] << 24;
@@ -231,14 +237,30 @@ static inline uint32_t feqyondil_state_number(const uint8_t *state, size_t offse
 
 /*
  * Opens an image of 1 to 16 banks of 65,536 bytes; a last part of a bank is ignored. Answers 0,
- * and fills state and work area. The active bank may still be one that isn't Valid, where every
- * Valid bank has generation 0: then edits, lookups, figures and commits are refused by 7.
+ * and fills state and work area, with both tallies 0. The active bank may still be one that isn't
+ * Valid, where every Valid bank has generation 0: then edits, lookups, figures and commits are
+ * refused by 7.
  *
- * Refusals: 6 where the state is below 204 bytes, and then nothing is written; 1, 2, 3, 4, in this
- * order, and then the state is all zeros in its first 204 bytes and the work area as it was.
+ * Refusals: 6 where the state is below 208 bytes, and then nothing is written; 1, 2, 3, 4, in this
+ * order, and then the state is all zeros in its first 208 bytes and the work area as it was.
  */
 uint32_t feqyondil_open(const uint8_t *image, size_t image_len, uint8_t *state, size_t state_len, uint8_t *work,
                         size_t work_len);
+
+/* Places in what feqyondil_tally answers. */
+#define FEQYONDIL_TALLY_CLOCK 0u
+#define FEQYONDIL_TALLY_BARREL 1u
+#define FEQYONDIL_TALLY_TOTAL 2u
+
+/*
+ * Answers whose commits wear the flash: tally gets the number of erase requests since the opening in
+ * the clock's commits, that in the barrel's, and that in all. Each stops at 4,294,967,295 by itself.
+ * The total is the sum of the two, stopped there.
+ *
+ * Refusal: 6 where the bytes hold no state, that is where there are fewer than 208 or an entry's kind
+ * is none of the three; tally then gets zeros.
+ */
+uint32_t feqyondil_tally(const uint8_t *state, size_t state_len, uint64_t tally[3]);
 
 /*
  * Puts a value under a key of a type into the active bank, in place of every live one of that key
@@ -326,13 +348,15 @@ uint32_t feqyondil_figures(const uint8_t *state, size_t state_len, const uint8_t
  * it moves to the next one, its live values only, and that one becomes active.
  *
  * requests gets 1 and the offset of the bank to erase, all 65,536 bytes of it, or 0 and 0; then the
- * write's offset and its length in output. The caller erases first, then writes: to the flash that
- * was opened, and nothing else. Where its erase or its write fails, the caller opens the flash
- * again: the state takes both as done. The state's tally counts the erase requests since the
- * opening and stops at 4,294,967,295.
+ * write's offset and its length in output. Erase first, then write: to the flash that was opened,
+ * and nothing else. Where the erase or the write fails, open the flash again: the state takes both
+ * as done.
  *
- * Refusals: 6, 5, 7, 9, 10, 11, 12, in this order. Each leaves state, tally, work area and output as
- * they were and asks for nothing: requests gets zeros. 12 is where the bank has to move, and its
+ * caller says who commits, FEQYONDIL_CLOCK or FEQYONDIL_BARREL: an erase request adds 1 to its
+ * tally, which stops at 4,294,967,295. Nothing else depends on it, and the other's tally stays.
+ *
+ * Refusals: 6, 5, 7, 9, 10, 11, 12, in this order. Each leaves state, work area and output as they
+ * were and asks for nothing: requests gets zeros. 12 is where the bank has to move, and its
  * header and live records are over its size: remove some, and commit again.
  *
  * POWER CUTS. Written from the first byte to the last, a commit that is cut off can lose what was
@@ -346,21 +370,21 @@ uint32_t feqyondil_figures(const uint8_t *state, size_t state_len, const uint8_t
  * cuts is to come with a later version.
  */
 uint32_t feqyondil_careful_commit(uint8_t *state, size_t state_len, uint8_t *work, size_t work_len, uint8_t *output,
-                                  size_t output_len, uint64_t requests[4]);
+                                  size_t output_len, uint32_t caller, uint64_t requests[4]);
 
 /*
  * The older commit, for boards that call it already. What feqyondil_careful_commit accepts it
- * accepts too, with the same bytes and the same power cuts; but it moves before it knows whether the
- * live records fit.
+ * accepts too, with the same bytes, the same tallies and the same power cuts; but it moves before it
+ * knows whether the live records fit.
  *
  * Refusals: 6, 5, 7, 9, 10, 11, in this order; requests then gets zeros and the rest stays as it
- * was. Last 12: output stays, but state and work area have moved, the tally has counted, and
- * requests has the erase, with zeros for the write. After 12, leave the flash alone and open it
+ * was. Last 12: output stays, but state and work area have moved, the caller's tally has counted,
+ * and requests has the erase, with zeros for the write. After 12, leave the flash alone and open it
  * again: carried out, that erase is of the next bank, and the next commit may ask for the erase of
  * the only good one.
  */
 uint32_t feqyondil_commit(uint8_t *state, size_t state_len, uint8_t *work, size_t work_len, uint8_t *output,
-                          size_t output_len, uint64_t requests[4]);
+                          size_t output_len, uint32_t caller, uint64_t requests[4]);
 
 /*
  * Joins the Valid banks, each at its own size, at the front of output, which has at least 65,536

@@ -11,6 +11,7 @@ use borrow.Author.Tests.{le-leb, lt-leb, ltb-true, ltb-false}
 use Rattle.bank.specs.Bank.{Bank, Slot, empty, invalid, valid, bankSize}
 use Rattle.bank.specs.Totals.{liveTotal}
 use Rattle.records.specs.Figures.{systemUsed, commonUsed}
+use Rattle.tally.specs.declared.Caller.{Caller}
 use Rattle.book.specs.Book.{Book, activeSlot}
 use Rattle.book.specs.Commit.{old, careful, Judged, refuse, inPlace, move, judge, carefully, judgeAs, due, judgeBank}
 use Rattle.book.specs.Call.{commit, committed, number, Outcome, stay, overflows, bySlot, moveIn, commitAs, commitBank, commitTo, step}
@@ -33,22 +34,22 @@ module _ (b : Book) where
       go true e = rw (e, lt-leb _ _ (ltb-true _ _ e)) (exceeds k _)
       go false e = rw (e, le-leb _ _ (ltb-false _ _ e)) (accepts _ refl)
 
-  module _ (room : ℕ) where
-    beside-slot : (s : Slot) → Beside b (bySlot b (commit old room) (commitBank b old) s) (bySlot b (commit careful room) (commitBank b careful) s)
+  module _ (caller : Caller) (room : ℕ) where
+    beside-slot : (s : Slot) → Beside b (bySlot b (commit old caller room) (commitBank b old) s) (bySlot b (commit careful caller room) (commitBank b careful) s)
     unfolding bySlot commitBank judgeBank judgeAs
     beside-slot empty = refuses 7
     beside-slot invalid = refuses 7
     beside-slot (valid k) = beside-judged k (judge (k .header) (systemUsed (k .records)) (commonUsed (k .records)) (due k))
 
-    beside : Beside b (step b (commit old room)) (step b (commit careful room))
+    beside : Beside b (step b (commit old caller room)) (step b (commit careful caller room))
     unfolding step commitTo
     beside = go (ltb room bankSize) refl
       where
-        go : (t : Bool) → ltb room bankSize ≡ t → Beside b (step b (commit old room)) (step b (commit careful room))
+        go : (t : Bool) → ltb room bankSize ≡ t → Beside b (step b (commit old caller room)) (step b (commit careful caller room))
         go true e = rw e (refuses 5)
         go false e = rw e (beside-slot (activeSlot b))
 
-    pub same : number (step b (commit old room) .answer) ≢ 12 → step b (commit careful room) ≡ step b (commit old room)
+    pub same : number (step b (commit old caller room) .answer) ≢ 12 → step b (commit careful caller room) ≡ step b (commit old caller room)
     same h = go _ _ beside h
       where
         go : (o c : Outcome) → Beside b o c → number (o .answer) ≢ 12 → c ≡ o
@@ -56,7 +57,7 @@ module _ (b : Book) where
         go o c (accepts x e) h = refl
         go o c (exceeds k e) h = absurd (h refl)
 
-    pub same-12 : number (step b (commit old room) .answer) ≡ 12 → step b (commit careful room) ≡ stay b (committed 12 none 0 0)
+    pub same-12 : number (step b (commit old caller room) .answer) ≡ 12 → step b (commit careful caller room) ≡ stay b (committed 12 none 0 0)
     same-12 h = go _ _ beside h
       where
         go : (o c : Outcome) → Beside b o c → number (o .answer) ≡ 12 → c ≡ stay b (committed 12 none 0 0)
@@ -64,5 +65,5 @@ module _ (b : Book) where
         go o c (accepts x e) h = absurd (omega arith)
         go o c (exceeds k e) h = refl
 
-    pub accepted-same : number (step b (commit careful room) .answer) ≡ 0 → step b (commit careful room) ≡ step b (commit old room)
+    pub accepted-same : number (step b (commit careful caller room) .answer) ≡ 0 → step b (commit careful caller room) ≡ step b (commit old caller room)
     accepted-same h = same (λ q. omega (arith, ap (λ (o : Outcome). number (o .answer)) (same-12 q), h))

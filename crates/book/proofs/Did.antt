@@ -13,6 +13,7 @@ use Rattle.bank.specs.Bank.{Bank, Slot, empty, invalid, valid, bankSize, output
 use Rattle.bank.specs.Totals.{total, liveTotal}
 use Rattle.records.specs.declared.edit.Found.{Found}
 use Rattle.records.specs.declared.figures.Figures.{Figures}
+use Rattle.tally.specs.declared.Caller.{Caller}
 use Rattle.book.specs.Edit.{Edit, insert, remove, editedBy, grows, refusedEdit}
 use Rattle.book.specs.Book.{partSize, Book, activeSlot, withRecords}
 use Rattle.book.specs.Commit.{Way, old, careful, Judged, due, judgeBank, nextBank, nextSlot, request, anyOverfull}
@@ -28,7 +29,7 @@ Reads (edit e) a = ⊥
 Reads (lookup key typ) a = (f : Option Found) × (a ≡ looked 0 f)
 Reads (fetch key typ) a = a ≡ handed
 Reads figures a = (f : Figures) × (a ≡ summed 0 f)
-Reads (commit way room) a = ⊥
+Reads (commit way caller room) a = ⊥
 Reads (wholeImage room) a = (long : ℕ) × (a ≡ joined 0 long)
 
 -- an accepted edit
@@ -54,12 +55,12 @@ pub data Did (b : Book) : Call → Outcome → Type 0 where
   refuses : {c : Call} (k : ℕ) → Number k → Did b c (stay b (refusal c k))
   reads : {c : Call} (a : Answer) (x : List ℕ) → Reads c a → Did b c (stayWith b a x)
   edits : (e : Edit) (d : Edits b e) → Did b (edit e) (change b (withRecords (d .bank) (editedBy e (d .bank .records))))
-  writes : (way : Way) (room : ℕ) (d : Writes b)
-      → Did b (commit way room) (stayWith b (committed 0 none (b .active * bankSize) (d .bank .header .size)) (output (d .bank)))
-  moves : (way : Way) (room : ℕ) (d : Due b) → liveTotal (d .bank) ≤ d .bank .header .size
-      → Did b (commit way room) (call.moves b (d .bank) (request (nextSlot b) (nextBank b)))
-  overflows : (room : ℕ) (d : Due b) → d .bank .header .size < liveTotal (d .bank)
-      → Did b (commit old room) (call.overflows b (d .bank) (request (nextSlot b) (nextBank b)))
+  writes : (way : Way) (caller : Caller) (room : ℕ) (d : Writes b)
+      → Did b (commit way caller room) (stayWith b (committed 0 none (b .active * bankSize) (d .bank .header .size)) (output (d .bank)))
+  moves : (way : Way) (caller : Caller) (room : ℕ) (d : Due b) → liveTotal (d .bank) ≤ d .bank .header .size
+      → Did b (commit way caller room) (call.moves b (d .bank) (request (nextSlot b) (nextBank b)))
+  overflows : (caller : Caller) (room : ℕ) (d : Due b) → d .bank .header .size < liveTotal (d .bank)
+      → Did b (commit old caller room) (call.overflows b (d .bank) (request (nextSlot b) (nextBank b)))
 
 five : Number 5
 five = record { not-0 = λ e. omega arith; not-6 = λ e. omega arith }
@@ -83,26 +84,26 @@ module _ (b : Book) where
       (λ r. edits (insert m key value typ) record { bank = k; was = q; small = λ h. r })
   edit-bank (remove key typ) k q = edits (remove key typ) record { bank = k; was = q; small = λ h. omega arith }
 
-  module _ (room : ℕ) where
+  module _ (caller : Caller) (room : ℕ) where
     -- 12 after a move is an old commit's
     over-size : (way : Way) (d : Due b) → Fits way (d .bank) → d .bank .header .size < liveTotal (d .bank)
-        → Did b (commit way room) (call.overflows b (d .bank) (request (nextSlot b) (nextBank b)))
-    over-size old d f h = overflows room d h
+        → Did b (commit way caller room) (call.overflows b (d .bank) (request (nextSlot b) (nextBank b)))
+    over-size old d f h = overflows caller room d h
     over-size careful d f h = absurd (omega arith)
 
-    move-bank : (way : Way) (d : Due b) → Fits way (d .bank) → Did b (commit way room) (moveIn b (d .bank) (request (nextSlot b) (nextBank b)))
+    move-bank : (way : Way) (d : Due b) → Fits way (d .bank) → Did b (commit way caller room) (moveIn b (d .bank) (request (nextSlot b) (nextBank b)))
     unfolding moveIn
     move-bank way d f =
-        by-test (Did b (commit way room)) (leb (liveTotal (d .bank)) (d .bank .header .size)) _ _ (λ t. moves way room d (leb-true _ _ t))
+        by-test (Did b (commit way caller room)) (leb (liveTotal (d .bank)) (d .bank .header .size)) _ _ (λ t. moves way caller room d (leb-true _ _ t))
         (λ t. over-size way d f (leb-false _ _ t))
 
-    commit-bank : (way : Way) (k : Bank) → activeSlot b ≡ valid k → Did b (commit way room) (commitBank b way k)
+    commit-bank : (way : Way) (k : Bank) → activeSlot b ≡ valid k → Did b (commit way caller room) (commitBank b way k)
     unfolding commitBank commitAs
     commit-bank way k e = go (judgeBank way k) (decided-bank way k)
       where
-        go : (j : Judged) → Decided (k .header) (due k) (Fits way k) j → Did b (commit way room) (commitAs b k j)
+        go : (j : Judged) → Decided (k .header) (due k) (Fits way k) j → Did b (commit way caller room) (commitAs b k j)
         go j (judge-laws.refuses n h) = refuses n h
-        go j (judge-laws.stays d) = writes way room (record { bank = k; was = e; fits = not-due k d })
+        go j (judge-laws.stays d) = writes way caller room (record { bank = k; was = e; fits = not-due k d })
         go j (judge-laws.moves d l f) = move-bank way (record { bank = k; was = e; due = is-due k d; left = l }) f
 
 pub did : (b : Book) (c : Call) → Did b c (step b c)
@@ -111,9 +112,9 @@ did b (edit e) = by-bank b (edit e) _ (edit-bank b e) (activeSlot b) refl
 did b (lookup key typ) = by-bank b (lookup key typ) _ (λ k e. reads {c = lookup key typ} _ [] (_, refl)) (activeSlot b) refl
 did b (fetch key typ) = by-bank b (fetch key typ) _ (λ k e. reads {c = fetch key typ} handed _ refl) (activeSlot b) refl
 did b figures = by-bank b figures _ (λ k e. reads {c = figures} _ [] (_, refl)) (activeSlot b) refl
-did b (commit way room) =
-    by-test (Did b (commit way room)) (ltb room bankSize) _ _ (λ t. refuses 5 five)
-    (λ t. by-bank b (commit way room) _ (commit-bank b room way) (activeSlot b) refl)
+did b (commit way caller room) =
+    by-test (Did b (commit way caller room)) (ltb room bankSize) _ _ (λ t. refuses 5 five)
+    (λ t. by-bank b (commit way caller room) _ (commit-bank b caller room way) (activeSlot b) refl)
 did b (wholeImage room) =
     by-test (Did b (wholeImage room)) (ltb room (b .n * bankSize)) _ _ (λ t. refuses 5 five)
     (λ t. by-test (Did b (wholeImage room)) (anyOverfull (b .slots)) _ _ (λ t. refuses 13 (above-6 13 (omega arith)))
@@ -126,7 +127,7 @@ read-number (edit e) a r = absurd r
 read-number (lookup key typ) a r = ap number (r .1)
 read-number (fetch key typ) a r = ap number r
 read-number figures a r = ap number (r .1)
-read-number (commit way room) a r = absurd r
+read-number (commit way caller room) a r = absurd r
 read-number (wholeImage room) a r = ap number (r .1)
 
 -- a refusal's is the one given; fetched bytes have none
@@ -135,5 +136,5 @@ refusal-number (edit e) k n h z = h
 refusal-number (lookup key typ) k n h z = h
 refusal-number (fetch key typ) k n h z = z
 refusal-number figures k n h z = h
-refusal-number (commit way room) k n h z = h
+refusal-number (commit way caller room) k n h z = h
 refusal-number (wholeImage room) k n h z = h

@@ -6,5 +6,6 @@ pub mod JudgeLaws
 pub mod Did
 pub mod StepLaws
 pub mod Careful
+pub mod AnyCaller
 pub mod Barrel
 pub mod RefusalLaws

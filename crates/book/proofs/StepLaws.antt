@@ -90,9 +90,9 @@ did-fine b c o y f (edits e d) =
     let h : total (d .bank) + grows e ≤ partSize = d .small (g .1) in
     changed-fine b (d .bank) (editedBy e (d .bank .records)) f g
     (fine-edited e (d .bank .records) y (omega (arith, part-size)) (g .0 .records-fine)) (omega (arith, sizes-edited e (d .bank .records)))
-did-fine b c o y f (writes way room d) = f
-did-fine b c o y f (moves way room d h) = moved-book-fine b (d .bank) f (active-bank b (d .bank) f (d .was)) (d .left)
-did-fine b c o y f (overflows room d h) = moved-book-fine b (d .bank) f (active-bank b (d .bank) f (d .was)) (d .left)
+did-fine b c o y f (writes way caller room d) = f
+did-fine b c o y f (moves way caller room d h) = moved-book-fine b (d .bank) f (active-bank b (d .bank) f (d .was)) (d .left)
+did-fine b c o y f (overflows caller room d h) = moved-book-fine b (d .bank) f (active-bank b (d .bank) f (d .was)) (d .left)
 
 pub step-fine : (b : Book) (c : Call) → ByteCall c → FineBook b → FineBook (step b c .laid)
 step-fine b c y f = did-fine b c (step b c) y f (did b c)
@@ -102,9 +102,9 @@ settled-did : (b : Book) (c : Call) (o : Outcome) → Follows c (number (o .answ
 settled-did b c o h (refuses k n) = refl
 settled-did b c o h (reads a x n) = refl
 settled-did b c o h (edits e d) = refl
-settled-did b c o h (writes way room d) = refl
-settled-did b c o h (moves way room d l) = refl
-settled-did b c o h (overflows room d l) = absurd (h refl refl)
+settled-did b c o h (writes way caller room d) = refl
+settled-did b c o h (moves way caller room d l) = refl
+settled-did b c o h (overflows caller room d l) = absurd (h refl refl)
 
 pub settled : (b : Book) (c : Call) → Follows c (number (step b c .answer)) → step b c .laid ≡ step b c .after
 settled b c h = settled-did b c (step b c) h (did b c)

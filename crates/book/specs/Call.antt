@@ -1,4 +1,4 @@
--- Calls as data, and what each does to the book and answers (01, 'A commit, from the entry down', 'Edits and lookups', 'Refusals'; 02, N3, N4).
+-- Calls as data, and what each does to the book and answers (01, 'A commit, from the entry down', 'Edits and lookups', 'Refusals'; 02, N3, N4, N7).
 use Prim.Native.Nat.{ℕ, zero, suc, _+_, _*_}
 use mathlib.Core.Path.{_≡_}
 use mathlib.Core.Logic.{_≢_}
@@ -15,18 +15,19 @@ use Rattle.records.specs.declared.edit.Found.{Found}
 use Rattle.records.specs.declared.figures.Figures.{Figures}
 use Rattle.records.specs.Match.{foundIn, valueIn}
 use Rattle.records.specs.Figures.{figuresOf, noFigures}
+use Rattle.tally.specs.declared.Caller.{Caller}
 use Rattle.book.specs.Edit.{Edit, ByteEdit, editedBy, refusedEdit}
 use Rattle.book.specs.Book.{partSize, Book, activeSlot, withActive, withRecords}
 use Rattle.book.specs.Commit.{Way, old, careful, Judged, refuse, inPlace, move, judgeBank, moved, nextBank, nextSlot, request, movedBook, imageOutput, anyOverfull}
 
--- lookup answers the place, fetch the bytes themselves, figures what the active bank's records come to; of a lent output a commit and a whole
--- image see the length
+-- lookup answers the place, fetch the bytes themselves, figures what the active bank's records come to; a commit is told who commits, for the
+-- tallies alone; of a lent output a commit and a whole image see the length
 pub data Call : Type 0 where
   edit : Edit → Call
   lookup : List ℕ → VarType → Call
   fetch : List ℕ → VarType → Call
   figures : Call
-  commit : Way → ℕ → Call
+  commit : Way → Caller → ℕ → Call
   wholeImage : ℕ → Call
 
 -- keys and values are bytes, as every slice is
@@ -35,7 +36,7 @@ ByteCall (edit e) = ByteEdit e
 ByteCall (lookup key typ) = Bytes key
 ByteCall (fetch key typ) = Bytes key
 ByteCall figures = Unit {0}
-ByteCall (commit way room) = Unit {0}
+ByteCall (commit way caller room) = Unit {0}
 ByteCall (wholeImage room) = Unit {0}
 
 -- a refusal's number, 0 where accepted; a lookup that is accepted finds something or nothing; bytes that are fetched have no number; figures
@@ -72,7 +73,7 @@ refusal (edit e) k = edited k
 refusal (lookup key typ) k = looked k none
 refusal (fetch key typ) k = handed
 refusal figures k = summed k noFigures
-refusal (commit way room) k = committed k none 0 0
+refusal (commit way caller room) k = committed k none 0 0
 refusal (wholeImage room) k = joined k 0
 
 -- an answer, the bytes handed back, the book after, and the book that state and work area hold after: another one where 12 keeps the move
@@ -144,9 +145,9 @@ unfoldable pub commitBank : Book → Way → Bank → Outcome
 commitBank b way k = commitAs b k (judgeBank way k)
 
 -- 5 where the output is too short
-unfoldable pub commitTo : Book → Way → ℕ → Outcome
-commitTo b way room =
-    cond (ltb room bankSize) (stay b (refusal (commit way room) 5)) (bySlot b (commit way room) (commitBank b way) (activeSlot b))
+unfoldable pub commitTo : Book → Way → Caller → ℕ → Outcome
+commitTo b way caller room =
+    cond (ltb room bankSize) (stay b (refusal (commit way caller room) 5)) (bySlot b (commit way caller room) (commitBank b way) (activeSlot b))
 
 -- 5, then 13 where a Valid bank has total > size
 unfoldable pub imageTo : Book → ℕ → Outcome
@@ -160,7 +161,7 @@ step b (edit e) = bySlot b (edit e) (editBank b e) (activeSlot b)
 step b (lookup key typ) = bySlot b (lookup key typ) (lookupBank b key typ) (activeSlot b)
 step b (fetch key typ) = bySlot b (fetch key typ) (fetchBank b key typ) (activeSlot b)
 step b figures = bySlot b figures (figuresBank b) (activeSlot b)
-step b (commit way room) = commitTo b way room
+step b (commit way caller room) = commitTo b way caller room
 step b (wholeImage room) = imageTo b room
 
 -- an old commit
@@ -169,8 +170,8 @@ isOld (edit e) = false
 isOld (lookup key typ) = false
 isOld (fetch key typ) = false
 isOld figures = false
-isOld (commit old room) = true
-isOld (commit careful room) = false
+isOld (commit old caller room) = true
+isOld (commit careful caller room) = false
 isOld (wholeImage room) = false
 
 -- no old commit that is refused by 12: after every other call state and work area hold the book after it

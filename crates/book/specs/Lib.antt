@@ -3,4 +3,4 @@ pub mod Edit
 pub mod Opening
 pub mod Commit
 pub mod Call
-pub mod Tally
+pub mod Tallied

@@ -5,6 +5,7 @@ use mathlib.Core.List.{List, [], _∷_, _++_}
 use lib.ListN.{length, replicate}
 use Rattle.crc32.specs.Crc32.{polyIf, bitStep, bitSteps, byteStep, byteSteps, crc32Of}
 use Rattle.buffers.specs.Bytes.{allFF, allBlank, countFF, eqBytes}
+use Rattle.tally.specs.declared.Caller.the-variants.{Clock}
 use Rattle.bank.specs.declared.header.StoreHeader.{StoreHeader}
 use Rattle.bank.specs.declared.variable.VarType.the-variants.{Common}
 use Rattle.bank.specs.Number.{u16At, u32At, le32}
@@ -105,8 +106,8 @@ table =
     -- P9 removing state 0x7F gives 0x7C; 0x7E stays
     ∷ (deletedState 0x7F ∷ deletedState 0x7E ∷ [] is 0x7C ∷ 0x7E ∷ [])
     -- P10 total = usable = 65,536 writes in place; 65,537 moves
-    ∷ (writes (step (filled 65536) (commit old 65536) .answer) is 0 ∷ 0 ∷ [])
-    ∷ (writes (step (filled 65537) (commit old 65536) .answer) is 0 ∷ 65536 ∷ [])
+    ∷ (writes (step (filled 65536) (commit old Clock 65536) .answer) is 0 ∷ 0 ∷ [])
+    ∷ (writes (step (filled 65537) (commit old Clock 65536) .answer) is 0 ∷ 65536 ∷ [])
     -- P11 36 zero bytes, then 0xFF: blank. P12 36 bytes 0xFF, then 0: usable = total + 36
     ∷ (totals (readBank (bank 65536 (replicate 36 0))) is 24 ∷ 65536 ∷ 0 ∷ [])
     ∷ (totals (readBank (bank 65536 (replicate 36 255 ++ (0 ∷ [])))) is 24 ∷ (24 + 36) ∷ 0 ∷ [])

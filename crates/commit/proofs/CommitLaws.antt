@@ -10,6 +10,8 @@ use lib.ListN.{length, getD, take, drop, length-drop}
 use lib.Seq.{take-at, drop-at, length-take-le}
 use borrow.Author.Tests.{lt-ltb, le-ltb}
 use Rattle.crc32.specs.Crc32.{Bytes}
+use Rattle.tally.specs.declared.Caller.{Caller}
+use Rattle.tally.proofs.TallyLaws.{counted-none}
 use Rattle.bank.specs.declared.header.StoreHeader.{StoreHeader}
 use Rattle.bank.specs.Bank.{Bank, Slot, invalid, valid, bankSize, partOf, output}
 use Rattle.bank.specs.Record.{sizes, live}
@@ -27,7 +29,7 @@ use Rattle.nvram.specs.declared.state.Entry.{Entry}
 use Rattle.nvram.specs.declared.state.Nvram.{Nvram}
 use Rattle.nvram.specs.declared.summary.Summary.{Summary}
 use Rattle.nvram.specs.declared.summary.Soundness.{Soundness}
-use Rattle.nvram.specs.Layout.{view}
+use Rattle.nvram.specs.Layout.{layState, view}
 use Rattle.nvram.specs.Soundness.{slotSummary, activeSummary, soundness}
 use Rattle.nvram.specs.Ready.{activeEntry}
 use Rattle.nvram.specs.Contract.{Does}
@@ -59,19 +61,19 @@ module _ {s : Nvram} {w : List ℕ} (g : Sound s w) (v : activeEntry s .kind ≡
 
 -- the refusals before that
 
-enough : (b : Book) (way : Way) (room : ℕ) → 65536 ≤ room → step b (commit way room) ≡ bySlot b (commit way room) (commitBank b way) (activeSlot b)
+enough : (b : Book) (way : Way) (caller : Caller) (room : ℕ) → 65536 ≤ room → step b (commit way caller room) ≡ bySlot b (commit way caller room) (commitBank b way) (activeSlot b)
 unfolding step commitTo bankSize
-enough b way room h = simp (le-ltb room 65536 h)
+enough b way caller room h = simp (le-ltb room 65536 h)
 
-module _ {s : Nvram} {w : List ℕ} (g : Sound s w) (way : Way) (room : ℕ) where
-  pub does-5 : room < 65536 → Does (commit way room) s w (committed 5 none 0 0) [] s w
+module _ {s : Nvram} {w : List ℕ} (g : Sound s w) (way : Way) (caller : Caller) (room : ℕ) where
+  pub does-5 : room < 65536 → Does (commit way caller room) s w (committed 5 none 0 0) [] s w
   unfolding step commitTo bankSize
-  does-5 h = does-refuse g (commit way room) 5 (simp (lt-ltb room 65536 h))
+  does-5 h = does-refuse g (commit way caller room) 5 (simp (lt-ltb room 65536 h))
 
-  pub does-7 : 65536 ≤ room → (activeEntry s .kind ≡ Valid → ⊥) → Does (commit way room) s w (committed 7 none 0 0) [] s w
+  pub does-7 : 65536 ≤ room → (activeEntry s .kind ≡ Valid → ⊥) → Does (commit way caller room) s w (committed 7 none 0 0) [] s w
   does-7 h v =
-      does-refuse g (commit way room) 7
-      (enough (book g) way room h ∙ by-7 (book g) (commit way room) _ (activeSlot (book g)) (λ e. v (ap (λ (x : Entry). x .kind) (entry-is g) ∙ e)))
+      does-refuse g (commit way caller room) 7
+      (enough (book g) way caller room h ∙ by-7 (book g) (commit way caller room) _ (activeSlot (book g)) (λ e. v (ap (λ (x : Entry). x .kind) (entry-is g) ∙ e)))
 
 -- what is known when a commit of the active bank begins
 pub record ActiveKnown (s : Nvram) (w : List ℕ) (h : StoreHeader) : Type 0 where
@@ -125,40 +127,40 @@ module _ {s : Nvram} {w : List ℕ} {h : StoreHeader} (a : ActiveKnown s w h) wh
       let u : k ≡ here = cc in
       ap (judgeBank way) u ∙ sym e
 
-  module _ (way : Way) (room : ℕ) (wide : 65536 ≤ room) where
-    pub commit-step : step b (commit way room) ≡ commitAs b here (judgeBank way here)
+  module _ (way : Way) (caller : Caller) (room : ℕ) (wide : 65536 ≤ room) where
+    pub commit-step : step b (commit way caller room) ≡ commitAs b here (judgeBank way here)
     unfolding commitBank
-    commit-step = enough b way room wide ∙ by-valid b (commit way room) (commitBank b way) here (bank-is sound (a .active .kind))
+    commit-step = enough b way caller room wide ∙ by-valid b (commit way caller room) (commitBank b way) here (bank-is sound (a .active .kind))
 
-    pub refuses : (n : ℕ) → refuse n ≡ judgeBank way here → Does (commit way room) s w (committed n none 0 0) [] s w
+    pub refuses : (n : ℕ) → refuse n ≡ judgeBank way here → Does (commit way caller room) s w (committed n none 0 0) [] s w
     unfolding commitAs
-    refuses n e = does-refuse sound (commit way room) n (commit-step ∙ ap (commitAs b here) (sym e))
+    refuses n e = does-refuse sound (commit way caller room) n (commit-step ∙ ap (commitAs b here) (sym e))
 
     pub stays : inPlace ≡ judgeBank way here
-        → Does (commit way room) s w (committed 0 none (s .active * 65536) (h .size)) (take (h .size) (drop (s .active * 131072) w)) s w
+        → Does (commit way caller room) s w (committed 0 none (s .active * 65536) (h .size)) (take (h .size) (drop (s .active * 131072) w)) s w
     unfolding commitAs bankSize
     stays e =
         let f = bank-fine sound (a .active .kind) .0 in
         let r : total here ≤ here .header .size = omega (arith, in-place-fits way here (sym e), f .usable-high) in
-        does (commit way room) s w b (stayWith b (committed 0 none (b .active * bankSize) (here .header .size)) (output here)) _ _ s w (viewed sound) (commit-step ∙ ap (commitAs b here) (sym e))
+        does (commit way caller room) s w b (stayWith b (committed 0 none (b .active * bankSize) (here .header .size)) (output here)) _ _ s w (viewed sound) (commit-step ∙ ap (commitAs b here) (sym e))
         (record {
           answer = ap₂ (λ (i n : ℕ). committed 0 none (i * 65536) n) (active-is sound) size-is;
           out = ap₂ (λ (n : ℕ) (l : List ℕ). take n l) size-is (active-part sound (a .active .kind)) ∙ bank-out here _ f r;
-          state = state-is sound;
+          state = state-is sound ∙ ap (layState b) (sym (counted-none (some caller) (s .tally)));
           work = work-is sound;
         })
 
 -- what the code answers, by what it returns
-module _ {way : Way} {s s′ : Nvram} {w w′ : List ℕ} (o : List ℕ) (r : Applied) (e : Option ℕ) where
+module _ {way : Way} {caller : Caller} {s s′ : Nvram} {w w′ : List ℕ} (o : List ℕ) (r : Applied) (e : Option ℕ) where
   pub quiet : (n : ℕ) → (applied r ≡ committed n e 0 0) × (r .length ≡ 0) × (r .state ≡ s′)
-      → Does (commit way (length o)) s w (committed n e 0 0) [] s′ w′ → Commits way s w o r w′ o
+      → Does (commit way caller (length o)) s w (committed n e 0 0) [] s′ w′ → Commits way caller s w o r w′ o
   quiet n p d =
       (record { answer = p .0 ∙ d .answer; out = ap (λ (i : ℕ). take i o) (p .1) ∙ d .out; state = p .2 ∙ d .state; work = d .work }, refl)
 
   pub wrote : (o′ : List ℕ) (n : ℕ) → n ≤ 65536 → s′ .active * 131072 + 131072 ≤ length w′
       → (applied r ≡ committed 0 e (s′ .active * 65536) n) × (r .length ≡ n) × (r .state ≡ s′) × (o′ ≡ take n (drop (s′ .active * 131072) w′) ++ drop n o)
-      → Does (commit way (length o)) s w (committed 0 e (s′ .active * 65536) n) (take n (drop (s′ .active * 131072) w′)) s′ w′
-      → Commits way s w o r w′ o′
+      → Does (commit way caller (length o)) s w (committed 0 e (s′ .active * 65536) n) (take n (drop (s′ .active * 131072) w′)) s′ w′
+      → Commits way caller s w o r w′ o′
   wrote o′ n h k p d =
       let x = take n (drop (s′ .active * 131072) w′) in
       let l : length x ≡ n = length-take-le n (drop (s′ .active * 131072) w′) (omega (arith, length-drop (s′ .active * 131072) w′)) in

@@ -4,13 +4,15 @@ use mathlib.Core.Path.{_≡_, refl, sym, ap, ap₂, _∙_}
 use mathlib.Core.List.{List, [], _++_}
 use mathlib.Core.Bool.{Bool, true, false}
 use mathlib.Core.Logic.{_⊎_, inl, inr}
-use mathlib.Core.Option.{Option}
+use mathlib.Core.Option.{Option, some}
 use native.Mathlib.Omega.{arith}
 use lib.Dec.{leb}
 use lib.ListN.{length, getD, set, take, drop}
 use borrow.Author.Tests.{le-leb, lt-leb, leb-true, leb-false}
 use Rattle.buffers.specs.Bytes.{over}
 use Rattle.buffers.proofs.OverLaws.{length-over}
+use Rattle.tally.specs.declared.Caller.{Caller}
+use Rattle.tally.specs.Tally.{counted}
 use Rattle.bank.specs.declared.header.StoreHeader.{StoreHeader}
 use Rattle.bank.specs.Record.{Record, live, sizes}
 use Rattle.bank.specs.Bank.{Bank, Slot, invalid, valid, bankSize, partOf, bankOf}
@@ -20,7 +22,6 @@ use Rattle.records.proofs.RecordLists.{sizes-select}
 use Rattle.book.specs.Book.{partSize, FineSlot, Book}
 use Rattle.book.specs.Commit.{Way, move, judgeBank, raised, moved, nextBank, nextSlot, request, movedBook}
 use Rattle.book.specs.Call.{commit, committed, moves, overflows, moveIn, commitAs, step}
-use Rattle.book.specs.Tally.{counted}
 use Rattle.book.proofs.BookLaws.{part-size, part-times}
 use Rattle.book.proofs.StepLaws.{moved-fine, next-inside}
 use Rattle.book.proofs.JudgeLaws.{move-grows}
@@ -130,15 +131,15 @@ module _ {way : Way} {s : Nvram} {w : List ℕ} {h : StoreHeader} {from to : ℕ
   pub total-fits : (r : StoreHeader) (t : ℕ) (w′ : List ℕ) → Copied r t w′ → t ≤ 131072
   total-fits r t w′ c = omega (arith, c (k .records) stand .0, sizes-select live (k .records), total-high g v)
 
-  -- what the code's calls left: besides, the erase request e and the state s′
-  pub record MoveLeft (t : ℕ) (w′ : List ℕ) (e : Option ℕ) (s′ : Nvram) : Type 0 where
+  -- what the code's calls left: besides, the erase request e and the state s′, in which it is counted for the caller
+  pub record MoveLeft (caller : Caller) (t : ℕ) (w′ : List ℕ) (e : Option ℕ) (s′ : Nvram) : Type 0 where
     pub header : StoreHeader
     pub header-raised : header ≡ raised h
     pub copied : Copied header t w′
     pub erase-is : (x : Slot) → getD (s .banks) next (entry Empty 0 0) .kind ≡ entryOf x .kind → e ≡ request x next
-    pub state : s′ ≡ movedState s next t (h .size) e
+    pub state : s′ ≡ movedState s next t (h .size) caller e
 
-  module _ {t : ℕ} {w′ : List ℕ} {e : Option ℕ} {s′ : Nvram} (l : MoveLeft t w′ e s′) where
+  module _ {caller : Caller} {t : ℕ} {w′ : List ℕ} {e : Option ℕ} {s′ : Nvram} (l : MoveLeft caller t w′ e s′) where
     total-left : t ≡ 24 + sizes (select live (k .records))
     total-left = l .copied (k .records) stand .0
 
@@ -167,14 +168,14 @@ module _ {way : Way} {s : Nvram} {w : List ℕ} {h : StoreHeader} {from to : ℕ
     unfolding movedState
     new-active = ap (λ (x : Nvram). x .active) (l .state)
 
-    new-state : s′ ≡ layState (movedBook b k) (counted e (s .tally))
+    new-state : s′ ≡ layState (movedBook b k) (counted (some caller) e (s .tally))
     unfolding movedState entryOf total
     new-state =
         let q : set (s .banks) next (entry Valid t (h .size)) ≡ layTable (set (b .slots) (nextBank b) (valid (moved k))) =
         (λ j. set (banks-are g j) next (entry Valid (total-left j) (size-is (m .known) j)))
         ∙ sym (table-set (b .slots) next (valid (moved k)) (inside g next next-low))
         ∙ ap (λ (i : ℕ). layTable (set (b .slots) i (valid (moved k)))) next-is in
-        l .state ∙ (λ j. record { n = n-is g j; active = next-is j; tally = counted e (s .tally); banks = q j })
+        l .state ∙ (λ j. record { n = n-is g j; active = next-is j; tally = counted (some caller) e (s .tally); banks = q j })
 
     pub new-in : s′ .active < 16
     new-in = omega (arith, new-active, next-in)
@@ -188,24 +189,24 @@ module _ {way : Way} {s : Nvram} {w : List ℕ} {h : StoreHeader} {from to : ℕ
         omega (arith, new-active)
 
     module _ (room : ℕ) (wide : 65536 ≤ room) where
-      move-step : step b (commit way room) ≡ moveIn b k e
+      move-step : step b (commit way caller room) ≡ moveIn b k e
       unfolding commitAs
-      move-step = commit-step (m .known) way room wide ∙ ap (commitAs b k) judged-move ∙ ap (moveIn b k) (sym request-is)
+      move-step = commit-step (m .known) way caller room wide ∙ ap (commitAs b k) judged-move ∙ ap (moveIn b k) (sym request-is)
 
-      pub does-12 : h .size < t → Does (commit way room) s w (committed 12 e 0 0) [] s′ w′
+      pub does-12 : h .size < t → Does (commit way caller room) s w (committed 12 e 0 0) [] s′ w′
       unfolding moveIn liveTotal
       does-12 o =
           let f : k .header .size < 24 + sizes (select live (k .records)) = omega (arith, total-left, size-is (m .known)) in
           let q : moveIn b k e ≡ overflows b k e = simp (lt-leb _ _ f) in
-          does (commit way room) s w b (overflows b k e) (committed 12 e 0 0) [] s′ w′ (viewed g) (move-step ∙ q)
+          does (commit way caller room) s w b (overflows b k e) (committed 12 e 0 0) [] s′ w′ (viewed g) (move-step ∙ q)
           (record { answer = refl; out = refl; state = new-state; work = new-laid })
 
-      pub does-move : t ≤ h .size → Does (commit way room) s w (committed 0 e (s′ .active * 65536) (h .size)) (take (h .size) (drop (s′ .active * 131072) w′)) s′ w′
+      pub does-move : t ≤ h .size → Does (commit way caller room) s w (committed 0 e (s′ .active * 65536) (h .size)) (take (h .size) (drop (s′ .active * 131072) w′)) s′ w′
       unfolding moveIn liveTotal total bankSize
       does-move o =
           let f : 24 + sizes (select live (k .records)) ≤ k .header .size = omega (arith, total-left, size-is (m .known)) in
           let q : moveIn b k e ≡ moves b k e = simp (le-leb _ _ f) in
-          does (commit way room) s w b (moves b k e) _ _ s′ w′ (viewed g) (move-step ∙ q)
+          does (commit way caller room) s w b (moves b k e) _ _ s′ w′ (viewed g) (move-step ∙ q)
           (record {
             answer = ap₂ (λ (i n : ℕ). committed 0 e (i * 65536) n) (new-active ∙ next-is) (size-is (m .known));
             out = (λ j. take (size-is (m .known) j) (drop (new-active j * 131072) (new-work j)))

@@ -5,6 +5,7 @@ use mathlib.Core.Option.{some}
 use mathlib.Core.List.{List}
 use mathlib.Core.Bool.{true}
 use lib.ListN.{length, take, drop}
+use Rattle.tally.specs.declared.Caller.{Caller}
 use Rattle.bank.specs.declared.header.StoreHeader.{StoreHeader}
 use Rattle.bank.specs.Bank.{Bank, valid}
 use Rattle.records.specs.declared.figures.Figures.{Figures}
@@ -55,10 +56,10 @@ abbrev pub SomeMoveDue : Nvram → List ℕ → Type 0
 SomeMoveDue s w = (way : Way) × MoveDue way s w
 
 -- a commit of s and w with the output o answers r, and leaves the work area w′ and the output o′
-abbrev pub Commits : Way → Nvram → List ℕ → List ℕ → Applied → List ℕ → List ℕ → Type 0
-Commits way s w o r w′ o′ =
-    Does (commit way (length o)) s w (applied r) (take (r .length) o′) (r .state) w′ × (drop (r .length) o′ ≡ drop (r .length) o)
+abbrev pub Commits : Way → Caller → Nvram → List ℕ → List ℕ → Applied → List ℕ → List ℕ → Type 0
+Commits way caller s w o r w′ o′ =
+    Does (commit way caller (length o)) s w (applied r) (take (r .length) o′) (r .state) w′ × (drop (r .length) o′ ≡ drop (r .length) o)
 
 -- the same, of every commit that is to move
-abbrev pub MoveCommits : Nvram → List ℕ → List ℕ → Applied → List ℕ → List ℕ → Type 0
-MoveCommits s w o r w′ o′ = (way : Way) → MoveDue way s w → Commits way s w o r w′ o′
+abbrev pub MoveCommits : Caller → Nvram → List ℕ → List ℕ → Applied → List ℕ → List ℕ → Type 0
+MoveCommits caller s w o r w′ o′ = (way : Way) → MoveDue way s w → Commits way caller s w o r w′ o′

@@ -1,4 +1,4 @@
-// The commit: 01, 'A commit, from the entry down'; and the careful one: 02, N4.
+// The commit: 01, 'A commit, from the entry down'; the careful one: 02, N4; and who commits: 02, N7.
 use bank::Partition;
 use bank::StoreHeader;
 use bank::Variable;
@@ -13,6 +13,7 @@ use requests::moved;
 use requests::refused;
 use requests::request;
 use requests::write;
+use tally::Caller;
 ghost use mathlib.Core.Path.{_≡_};
 ghost use Prim.Native.Nat.{_+_, _*_, _≤_, _<_};
 ghost use lib.ListN.{length};
@@ -102,16 +103,17 @@ fn move_on(
     from: usize,
     to: usize,
     header: StoreHeader,
+    caller: Caller,
 ) -> Applied
     requires { ⌜ Active state (now work) header × SomeMoveDue state (now work) × (from ≡ state .active * 131072 + 24) × (to ≡ state .active * 131072 + activeEntry state .total) × (65536 ≤ length (now output)) ⌝ }
-    ensures { λ r. ⌜ MoveCommits state (now (work .entry)) (now (output .entry)) r (now (work .exit)) (now (output .exit)) ⌝ }
+    ensures { λ r. ⌜ MoveCommits caller state (now (work .entry)) (now (output .entry)) r (now (work .exit)) (now (output .exit)) ⌝ }
 {
     let next = (state.active as usize + 1) % state.n as usize;
     let entry = state.banks[next];
     let kind = entry.kind;
     let erase = request(kind, next);
     let total = move_bank(work, from, to, next * Nvram::PART_SIZE, raised(header));
-    let after = moved(state, next, total, header.size, erase);
+    let after = moved(state, next, total, header.size, caller, erase);
     if (header.size as usize) < total {
         return refused(after, 12, erase);
     }
@@ -126,9 +128,10 @@ fn commit_active(
     header: StoreHeader,
     used: Figures,
     way: Way,
+    caller: Caller,
 ) -> Applied
     requires { ⌜ Active state (now work) header × Used state (now work) used × (65536 ≤ length (now output)) ⌝ }
-    ensures { λ r. ⌜ Commits (wayOf way) state (now (work .entry)) (now (output .entry)) r (now (work .exit)) (now (output .exit)) ⌝ }
+    ensures { λ r. ⌜ Commits (wayOf way) caller state (now (work .entry)) (now (output .entry)) r (now (work .exit)) (now (output .exit)) ⌝ }
 {
     let i = state.active as usize;
     let entry = state.banks[i];
@@ -138,13 +141,13 @@ fn commit_active(
     match judge_as(header, used, entry.usable < entry.total, way) {
         Judged::Refuse(number) => refused(state, number, Erase::Nothing),
         Judged::InPlace => write(state, work, output, header.size as usize, Erase::Nothing),
-        Judged::Move => move_on(state, work, output, from, to, header),
+        Judged::Move => move_on(state, work, output, from, to, header, caller),
     }
 }
 
 // 6, 5, 7, then the active bank's own refusals.
-pub fn apply(state: Nvram, work: &mut [u8], output: &mut [u8], way: Way) -> Applied
-    ensures { λ r. ⌜ Commits (wayOf way) state (now (work .entry)) (now (output .entry)) r (now (work .exit)) (now (output .exit)) ⌝ }
+pub fn apply(state: Nvram, work: &mut [u8], output: &mut [u8], way: Way, caller: Caller) -> Applied
+    ensures { λ r. ⌜ Commits (wayOf way) caller state (now (work .entry)) (now (output .entry)) r (now (work .exit)) (now (output .exit)) ⌝ }
 {
     let checked = check(state, work);
     if !checked.sound {
@@ -162,6 +165,6 @@ pub fn apply(state: Nvram, work: &mut [u8], output: &mut [u8], way: Way) -> Appl
     match kind {
         Kind::Empty => refused(state, 7, Erase::Nothing),
         Kind::Invalid => refused(state, 7, Erase::Nothing),
-        Kind::Valid => commit_active(state, work, output, header, used, way),
+        Kind::Valid => commit_active(state, work, output, header, used, way, caller),
     }
 }

@@ -1,18 +1,24 @@
--- A run through the exports meets demand 3 in both readings (`exported-01`, `exported-N4`, to be read: nothing cites them): the state that its bytes
--- hold after each call is the definition's (`follow`), so that what is claimed of every run is of the same run (`exported-3`).
+-- A run through the exports meets demand 3 in both readings, and its tallies are those of every run (`exported-01`, `exported-N4`, `exported-N7`, to be
+-- read: nothing cites them): the state that its bytes hold after each call is the definition's (`follow`), so that what is claimed of every run is of the
+-- same run (`exported-run`).
 use Prim.Native.Nat.{ℕ, zero, suc, _-_, _<_}
 use mathlib.Core.Path.{_≡_, refl, sym, ap, _∙_, subst}
 use mathlib.Core.List.{List, [], _∷_, _++_, map}
 use mathlib.Core.Bool.{Bool, true, false, cond, true≢false}
-use mathlib.Core.Option.{Option, none, some}
+use mathlib.Core.Option.{Option, some}
 use native.Mathlib.Omega.{arith}
 use lib.ListN.{length, replicate, length-append, length-map, length-replicate}
 use lib.Dec.{leb}
+use Rattle.tally.specs.declared.Caller.{Caller}
+use Rattle.tally.specs.declared.Caller.the-variants.{Clock, Barrel}
+use Rattle.tally.specs.declared.Tally.{Tally}
+use Rattle.tally.specs.Tally.{isOwn, tallyOf, noTally, totalOf}
+use Rattle.tally.proofs.TallyLaws.{counted-fits, counted-tally}
 use Rattle.bank.specs.Bank.{Slot, empty, invalid, valid}
 use Rattle.book.specs.Book.{Book, FineBook, FineSlots}
 use Rattle.book.specs.Opening.{Opened, opening}
 use Rattle.book.specs.Call.{Call, edit, lookup, fetch, figures, commit, wholeImage, ByteCall, Answer, number, erase, step, isOld, Follows}
-use Rattle.book.specs.Tally.{Tally, counted, tallied}
+use Rattle.book.specs.Tallied.{committer, tallied}
 use Rattle.book.proofs.BookLaws.{part-size}
 use Rattle.book.proofs.StepLaws.{step-fine}
 use Rattle.nvram.specs.declared.state.Kind.the-variants.{Empty}
@@ -21,17 +27,18 @@ use Rattle.nvram.specs.declared.state.Nvram.{Nvram}
 use Rattle.nvram.specs.Part.{entry, entryOf}
 use Rattle.nvram.specs.Layout.{layTable, layState, view}
 use Rattle.nvram.specs.Contract.{onBook, call, Does, Begun, begun}
-use Rattle.nvram.proofs.KeepLaws.{Kept, keeps}
+use Rattle.nvram.proofs.KeepLaws.{Kept, keeps, does-tally}
 use Rattle.run.specs.Run as run
 use Rattle.run.specs.Wear.{allCommits, acceptedCommits}
-use Rattle.run.specs.Demand.{Claim, Careful}
+use Rattle.run.specs.Demand.{Tallies, Demand3, Claim, Careful, Always}
 use Rattle.run.proofs.EachLaws.{each-none, each-more}
 use Rattle.run.proofs.Start.{starts}
+use Rattle.run.proofs.Tallies.{reading-N7}
 use Rattle.run.proofs.Demand.{reading-01, reading-N4}
 use Rattle.state_bytes.specs.State.{stateSize, stored, readState, FineEntries, FineState}
 use Rattle.state_bytes.proofs.StateLaws.{stored-back}
-use Rattle.exports.specs.Store.{BytesAfter, onState, exported, Tells, Calls, Start, stated, start, ExportOpens}
-use Rattle.exports.specs.ExportRun.{ExportEvent, ExportRun, ExportKeeps, Same, AllSame, ExportClaim, ExportClaim01, ExportClaimN4}
+use Rattle.exports.specs.Store.{BytesAfter, onState, exported, Tells, Calls, Start, stated, start, ExportOpens, tallyNumber, tallyFields}
+use Rattle.exports.specs.ExportRun.{ExportEvent, ExportRun, ExportKeeps, Same, AllSame, ExportClaim, ExportClaim01, ExportClaimN4, ExportClaimN7}
 
 -- what is laid out of a book fits into the state's bytes
 
@@ -47,7 +54,10 @@ entries-fine (invalid ∷ ss) es f g = ((omega arith, omega arith), entries-fine
 entries-fine (valid b ∷ ss) es f g =
     ((omega (arith, f .0 .1, part-size), omega (arith, f .0 .0 .usable-high, f .0 .0 .header-fine .size-high)), entries-fine ss es (f .1) g)
 
-laid-fine : (b : Book) (tally : Tally) → FineBook b → tally < 4294967296 → FineState (layState b tally)
+abbrev TallyFits : Tally → Type 0
+TallyFits t = (caller : Caller) → tallyOf caller t < 4294967296
+
+laid-fine : (b : Book) (tally : Tally) → FineBook b → TallyFits tally → FineState (layState b tally)
 unfolding layTable
 laid-fine b tally f h =
     record {
@@ -60,17 +70,14 @@ laid-fine b tally f h =
       banks-fine = entries-fine (b .slots) (replicate (16 - length (b .slots)) (entry Empty 0 0)) (f .slots-fine) (free-fine (16 - length (b .slots)));
     }
 
-counted-fits : (o : Option ℕ) (t : Tally) → t < 4294967296 → counted o t < 4294967296
-counted-fits none t h = h
-counted-fits (some offset) t h = omega arith
+none-fits : TallyFits noTally
+none-fits Clock = omega arith
+none-fits Barrel = omega arith
 
-tallied-fits : (c : Call) (a : Answer) (t : Tally) → t < 4294967296 → tallied c a t < 4294967296
-tallied-fits (edit e) a t h = h
-tallied-fits (lookup key typ) a t h = h
-tallied-fits (fetch key typ) a t h = h
-tallied-fits figures a t h = h
-tallied-fits (commit way room) a t h = counted-fits (erase a) t h
-tallied-fits (wholeImage room) a t h = h
+tallied-fits : (c : Call) (a : Answer) (t : Tally) → TallyFits t → TallyFits (tallied c a t)
+tallied-fits c a t h caller =
+    subst (λ (k : ℕ). k < 4294967296) (sym (counted-tally caller (committer c) (erase a) t))
+    (counted-fits (isOwn caller (committer c)) (erase a) (tallyOf caller t) (h caller))
 
 -- the bytes hold a state, and the state a book
 record StateAt (bs w : List ℕ) (s : Nvram) : Type 0 where
@@ -78,7 +85,7 @@ record StateAt (bs w : List ℕ) (s : Nvram) : Type 0 where
   book : Book
   viewed : view s w ≡ some book
   fine : FineBook book
-  tally : s .tally < 4294967296
+  tally : TallyFits (s .tally)
 
 -- a rule that a call keeps with what its function returned, it keeps with its answer's number
 abbrev Carries : (Call → ℕ → Type 0) → Type 0
@@ -91,7 +98,7 @@ old-number (edit e) a x o r q o′ t h = t .0
 old-number (lookup key typ) a x o r q o′ t h = t .0
 old-number (fetch key typ) a x o r q o′ t h = absurd (true≢false (sym h))
 old-number figures a x o r q o′ t h = t .0
-old-number (commit way room) a x o r q o′ t h = t .returned
+old-number (commit way caller room) a x o r q o′ t h = t .returned
 old-number (wholeImage room) a x o r q o′ t h = t .returned
 
 follows-carries : Carries Follows
@@ -113,7 +120,7 @@ module _ (bs w : List ℕ) (s : Nvram) (a : StateAt bs w s) (e : ExportEvent) (y
   unfolding onState event
   does = record { answer = refl; out = refl; state = refl; work = d .work ∙ ap (λ (x : BytesAfter). x .work) after }
 
-  kept : Kept c (a .book) s (event .answer) (event .out) (event .state) (e .work)
+  kept : Kept c (a .book) (event .answer) (event .out) (event .state) (e .work)
   kept = keeps c s w (a .book) (event .answer) (event .out) (event .state) (e .work) y (a .fine) (a .viewed) does
 
   laid : event .state ≡ layState (step (a .book) c .laid) (tallied c (step (a .book) c .answer) (s .tally))
@@ -136,7 +143,7 @@ module _ (bs w : List ℕ) (s : Nvram) (a : StateAt bs w s) (e : ExportEvent) (y
         book = step (a .book) c .laid;
         viewed = kept .viewed;
         fine = step-fine (a .book) c y (a .fine);
-        tally = subst (λ (n : ℕ). n < 4294967296) (sym (kept .tally)) (tallied-fits c (event .answer) (s .tally) (a .tally));
+        tally = subst TallyFits (sym (does-tally c s w (event .answer) (event .out) (event .state) (e .work) does)) (tallied-fits c (event .answer) (s .tally) (a .tally));
       }
 
   abbrev Told : BytesAfter → Type 0
@@ -185,18 +192,18 @@ begins image bs w bs′ w′ o = go (leb stateSize (length bs)) (o .number) (o .
     go true n s v = (sym n, s, v)
     go false n s v = absurd (omega arith)
 
-exported-3 : (Keeps : Call → ℕ → Type 0) (counts : ℕ → Bool) → Carries Keeps → Claim Keeps counts → ExportClaim Keeps counts
+exported-run : (Keeps : Call → ℕ → Type 0) (Holds : List ℕ → List run.Page → Type 0) → Carries Keeps → Claim Keeps Holds → ExportClaim Keeps Holds
 unfolding begun
-exported-3 Keeps counts carries claim image bs w bs′ w′ es y o r h =
+exported-run Keeps Holds carries claim image bs w bs′ w′ es y o r h =
     let x = begun (opening image (length w)) w in
     let b = begins image bs w bs′ w′ o in
     let opens : run.Opens image w (x .state) w′ = record { bytes = y; accepted = b .0; state = refl; left = b .2 } in
     let t = starts image w (x .state) w′ opens in
-    let s : x .state ≡ layState (run.openedBook image) 0 = ap (λ (z : Opened). begun z w .state) (t .opens) in
+    let s : x .state ≡ layState (run.openedBook image) noTally = ap (λ (z : Opened). begun z w .state) (t .opens) in
     let read : readState bs′ ≡ some (x .state) =
-    ap readState (b .1) ∙ stored-back (x .state) bs (subst FineState (sym s) (laid-fine (run.openedBook image) 0 (t .fine) (omega arith))) in
+    ap readState (b .1) ∙ stored-back (x .state) bs (subst FineState (sym s) (laid-fine (run.openedBook image) noTally (t .fine) none-fits)) in
     let a : StateAt bs′ w′ (x .state) =
-    record { read = read; book = run.openedBook image; viewed = t .viewed; fine = t .fine; tally = omega (arith, t .tally) } in
+    record { read = read; book = run.openedBook image; viewed = t .viewed; fine = t .fine; tally = subst TallyFits (sym (t .tally)) none-fits } in
     let m = follow Keeps carries bs′ w′ (x .state) es a r h in
     record {
       state = x .state;
@@ -205,11 +212,20 @@ exported-3 Keeps counts carries claim image bs w bs′ w′ es y o r h =
       opens = opens;
       runs = m .runs;
       same = m .same;
-      demand = claim image w (x .state) w′ (m .events) opens (m .runs) (m .keeps (run.openedBook image));
+      holds = claim image w (x .state) w′ (m .events) opens (m .runs) (m .keeps (run.openedBook image));
     }
 
 pub exported-01 : ExportClaim01
-exported-01 = exported-3 Follows allCommits follows-carries reading-01
+exported-01 = exported-run Follows (λ image. Demand3 image allCommits) follows-carries reading-01
 
 pub exported-N4 : ExportClaimN4
-exported-N4 = exported-3 Careful acceptedCommits (λ c a x o r q o′ t h. h) reading-N4
+exported-N4 = exported-run Careful (λ image. Demand3 image acceptedCommits) (λ c a x o r q o′ t h. h) reading-N4
+
+pub exported-N7 : ExportClaimN7
+exported-N7 = exported-run Always (λ image. Tallies) (λ c a x o r q o′ t h. h) reading-N7
+
+-- to be read: after each call of such a run `feqyondil_tally` answers the tallies of demand 3, and their total
+pub tally-told : (e : ExportEvent) (f : run.Event) → Same e f
+    → (tallyNumber (readState (e .state)) ≡ 0)
+    × (tallyFields (readState (e .state)) ≡ f .state .tally .clock ∷ f .state .tally .barrel ∷ totalOf (f .state .tally) ∷ [])
+tally-told e f s = (ap tallyNumber (s .state), ap tallyFields (s .state))

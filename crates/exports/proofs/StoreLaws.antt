@@ -1,5 +1,6 @@
 -- The contracts of the exported calls, from those of the calls: 6 where the bytes hold no state (`calls-6`), else by the state that was loaded
--- (`calls`, `keeps`, `exported-remove`); and of the exported opening (`opens-6`, `opens`). To be read: a call that is refused leaves every byte
+-- (`calls`, `keeps`, `exported-remove`); of the exported opening (`opens-6`, `opens`), and of
+-- the tallies (`no-tally`, `tally-read`). To be read: a call that is refused leaves every byte
 -- (`exported-refused`), so an edit and a careful commit (`edit-refused`, `careful-refused`).
 use Prim.Native.Nat.{ℕ, _≤_, _<_}
 use mathlib.Core.Path.{_≡_, refl, sym, ap, _∙_, subst}
@@ -10,6 +11,8 @@ use mathlib.Core.Option.{Option, none, some}
 use lib.ListN.{length}
 use borrow.Author.Tests.{le-leb, lt-leb}
 use Rattle.crc32.specs.Crc32.{Bytes}
+use Rattle.tally.specs.declared.Caller.{Caller}
+use Rattle.tally.specs.Tally.{totalOf}
 use Rattle.bank.specs.declared.variable.VarType.{VarType}
 use Rattle.records.specs.Checked.{isSome}
 use Rattle.book.specs.Edit.{Edit, remove}
@@ -32,7 +35,7 @@ use Rattle.variables.proofs.EditLaws.{removes}
 use Rattle.state_bytes.specs.declared.Loaded.{Loaded}
 use Rattle.state_bytes.specs.State.{stateSize, stored, readState, loaded}
 use Rattle.state_bytes.proofs.StateLaws.{bytes-back, read-state-fine}
-use Rattle.exports.specs.Store.{BytesAfter, onState, exported, Tells, Calls, Start, stated, start, ExportOpens}
+use Rattle.exports.specs.Store.{BytesAfter, onState, exported, Tells, Calls, Start, stated, start, ExportOpens, tallyNumber, tallyFields}
 
 -- a remove leaves the state as it was
 
@@ -58,6 +61,16 @@ loaded-none (some s) r e h = let z : true ≡ false = sym (ap (λ (x : Loaded). 
 pub loaded-some : (o : Option Nvram) (r : Loaded) → r ≡ loaded o → r .ok ≡ true → o ≡ some (r .state)
 loaded-some none r e h = let z : true ≡ false = sym h ∙ ap (λ (x : Loaded). x .ok) e in absurd (true≢false z)
 loaded-some (some s) r e h = ap (λ (x : Loaded). some (x .state)) (sym e)
+
+-- the tallies of what was loaded
+module _ (bs : List ℕ) where
+  pub no-tally : readState bs ≡ none → (6 ≡ tallyNumber (readState bs)) × (0 ∷ 0 ∷ 0 ∷ [] ≡ tallyFields (readState bs))
+  no-tally e = (sym (ap tallyNumber e), sym (ap tallyFields e))
+
+  pub tally-read : (s : Nvram) (total : ℕ) → readState bs ≡ some s → total ≡ totalOf (s .tally)
+      → (0 ≡ tallyNumber (readState bs)) × (s .tally .clock ∷ s .tally .barrel ∷ total ∷ [] ≡ tallyFields (readState bs))
+  tally-read s total e t =
+      (sym (ap tallyNumber e), ap (λ (n : ℕ). s .tally .clock ∷ s .tally .barrel ∷ n ∷ []) t ∙ sym (ap tallyFields e))
 
 -- a call by what it tells and leaves
 
@@ -137,12 +150,12 @@ edit-refused e bs w r bs′ w′ k kw d h =
     (u .state, u .work)
 
 -- of a careful commit (02, N4), which asks for nothing
-pub careful-refused : (room : ℕ) (bs w o : List ℕ) (r : ℕ) (q bs′ w′ o′ : List ℕ) → Bytes bs → Bytes w
-    → Calls (commit careful room) bs w o r q bs′ w′ o′
+pub careful-refused : (caller : Caller) (room : ℕ) (bs w o : List ℕ) (r : ℕ) (q bs′ w′ o′ : List ℕ) → Bytes bs → Bytes w
+    → Calls (commit careful caller room) bs w o r q bs′ w′ o′
     → r ≢ 0
     → (q ≡ 0 ∷ 0 ∷ 0 ∷ 0 ∷ []) × (bs′ ≡ bs) × (w′ ≡ w) × (o′ ≡ o)
-careful-refused room bs w o r q bs′ w′ o′ k kw d h =
-    let c : Call = commit careful room in
+careful-refused caller room bs w o r q bs′ w′ o′ k kw d h =
+    let c : Call = commit careful caller room in
     let u = exported-refused c bs w o r q bs′ w′ o′ d k kw (λ z. h (d .tells .returned ∙ z)) (not-old c _ refl) in
     (u .tells .fields, u .state, u .work, u .tells .rest)
 

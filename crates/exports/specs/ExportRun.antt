@@ -3,13 +3,12 @@ use Prim.Native.Nat.{ℕ}
 use mathlib.Core.Path.{_≡_}
 use mathlib.Core.List.{List, [], _∷_}
 use mathlib.Core.Option.{some}
-use mathlib.Core.Bool.{Bool}
 use Rattle.crc32.specs.Crc32.{Bytes}
 use Rattle.book.specs.Call.{Call, ByteCall, Follows}
 use Rattle.nvram.specs.declared.state.Nvram.{Nvram}
 use Rattle.run.specs.Run as run
 use Rattle.run.specs.Wear.{allCommits, acceptedCommits}
-use Rattle.run.specs.Demand.{Demand3, Careful}
+use Rattle.run.specs.Demand.{Tallies, Demand3, Careful, Always}
 use Rattle.state_bytes.specs.State.{readState}
 use Rattle.exports.specs.Store.{Tells, Calls, ExportOpens}
 
@@ -48,26 +47,30 @@ AllSame [] (f ∷ fs) = ⊥
 AllSame (e ∷ es) [] = ⊥
 AllSame (e ∷ es) (f ∷ fs) = Same e f × AllSame es fs
 
-pub record Exported3 (counts : ℕ → Bool) (image w bs′ w′ : List ℕ) (es : List ExportEvent) : Type 0 where
+-- they are a run, of whose pages something holds
+pub record RunHolds (Holds : List run.Page → Type 0) (image w bs′ w′ : List ℕ) (es : List ExportEvent) : Type 0 where
   pub state : Nvram
   pub read : readState bs′ ≡ some state
   pub events : List run.Event
   pub opens : run.Opens image w state w′
   pub runs : run.Run state w′ events
   pub same : AllSame es events
-  pub demand : Demand3 image counts (run.pages (run.openedBook image) events)
+  pub holds : Holds (run.pages (run.openedBook image) events)
 
 -- of an accepted opening and a list of exported calls
-abbrev pub ExportClaim : (Call → ℕ → Type 0) → (ℕ → Bool) → Type 0
-ExportClaim Keeps counts =
+abbrev pub ExportClaim : (Call → ℕ → Type 0) → (List ℕ → List run.Page → Type 0) → Type 0
+ExportClaim Keeps Holds =
     (image bs w bs′ w′ : List ℕ) (es : List ExportEvent) → Bytes image → ExportOpens image bs w 0 bs′ w′ → ExportRun bs′ w′ es
     → ExportKeeps Keeps es
-    → Exported3 counts image w bs′ w′ es
+    → RunHolds (Holds image) image w bs′ w′ es
 
--- 01's reading and 02's (N4), as in run/specs/Demand
+-- 01's reading and 02's (N4, N7), as in run/specs/Demand
 
 abbrev pub ExportClaim01 : Type 0
-ExportClaim01 = ExportClaim Follows allCommits
+ExportClaim01 = ExportClaim Follows (λ image. Demand3 image allCommits)
 
 abbrev pub ExportClaimN4 : Type 0
-ExportClaimN4 = ExportClaim Careful acceptedCommits
+ExportClaimN4 = ExportClaim Careful (λ image. Demand3 image acceptedCommits)
+
+abbrev pub ExportClaimN7 : Type 0
+ExportClaimN7 = ExportClaim Always (λ image. Tallies)

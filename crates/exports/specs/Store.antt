@@ -7,6 +7,9 @@ use mathlib.Core.Option.{Option, none, some}
 use lib.ListN.{length, take, drop}
 use lib.Dec.{eqb, leb}
 use Rattle.buffers.specs.Bytes.{onto}
+use Rattle.tally.specs.declared.Caller.{Caller}
+use Rattle.tally.specs.declared.Caller.the-variants.{Clock, Barrel}
+use Rattle.tally.specs.Tally.{totalOf}
 use Rattle.bank.specs.declared.variable.VarType.{VarType}
 use Rattle.bank.specs.declared.variable.VarType.the-variants.{Common, System}
 use Rattle.book.specs.Call.{Call, edit, lookup, fetch, figures, commit, wholeImage, Answer, edited, looked, handed, summed, committed, joined, number, refusal}
@@ -18,6 +21,10 @@ use Rattle.state_bytes.specs.State.{stateSize, readState, stored}
 -- 0 is Common, every other number System
 abbrev pub varTypeOf : ℕ → VarType
 varTypeOf n = cond (eqb n 0) Common System
+
+-- 0 is the clock, every other number the barrel
+abbrev pub callerOf : ℕ → Caller
+callerOf n = cond (eqb n 0) Clock Barrel
 
 -- a call
 
@@ -78,7 +85,7 @@ Tells (edit e) a x o r q o′ = (r ≡ number a) × (q ≡ []) × (o′ ≡ o)
 Tells (lookup key typ) a x o r q o′ = (r ≡ number a) × (q ≡ fieldsOf a) × (o′ ≡ o)
 Tells (fetch key typ) a x o r q o′ = (r ≡ length x) × (q ≡ []) × (o′ ≡ onto x o)
 Tells figures a x o r q o′ = (r ≡ number a) × (q ≡ fieldsOf a) × (o′ ≡ o)
-Tells (commit way room) a x o r q o′ = Written a x o r q o′
+Tells (commit way caller room) a x o r q o′ = Written a x o r q o′
 Tells (wholeImage room) a x o r q o′ = Written a x o r q o′
 
 -- the contract of every exported call: what it tells, the state's bytes bs′ and the work area w′ are those of the definition
@@ -106,3 +113,14 @@ pub record ExportOpens (image bs w : List ℕ) (r : ℕ) (bs′ w′ : List ℕ)
   pub number : r ≡ start image bs w .number
   pub state : bs′ ≡ start image bs w .state
   pub work : w′ ≡ start image bs w .work
+
+-- the tallies of the state that the bytes hold (02, N7), whatever the work area is
+
+abbrev pub tallyNumber : Option Nvram → ℕ
+tallyNumber none = 6
+tallyNumber (some s) = 0
+
+-- the clock's, the barrel's and the total; zeros where there is no state
+abbrev pub tallyFields : Option Nvram → List ℕ
+tallyFields none = 0 ∷ 0 ∷ 0 ∷ []
+tallyFields (some s) = s .tally .clock ∷ s .tally .barrel ∷ totalOf (s .tally) ∷ []

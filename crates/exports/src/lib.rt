@@ -5,3 +5,4 @@ mod log;
 mod partition;
 mod same;
 mod store;
+mod tallies;

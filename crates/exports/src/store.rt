@@ -6,6 +6,7 @@ use requests::Erase;
 use state_bytes::STATE;
 use state_bytes::load;
 use state_bytes::store;
+use tally::Caller;
 use variables::Lookup;
 use variables::Manner;
 use variables::get_variable;
@@ -21,7 +22,7 @@ ghost use Rattle.variables.specs.LookupAnswer.{lookupAnswer};
 ghost use Rattle.variables.specs.Manner.{mannerOf};
 ghost use Rattle.requests.specs.Applied.{applied};
 ghost use Rattle.commit.specs.Active.{wayOf};
-ghost use Rattle.exports.specs.Store.{varTypeOf, fieldsOf, Calls, ExportOpens};
+ghost use Rattle.exports.specs.Store.{varTypeOf, callerOf, fieldsOf, Calls, ExportOpens};
 
 fn var_type(typ: u32) -> VarType
     ensures { λ r. ⌜ r ≡ varTypeOf typ ⌝ }
@@ -203,15 +204,26 @@ fn requests(answer: Applied) -> [u64; 4]
     }
 }
 
+fn caller_of(caller: u32) -> Caller
+    ensures { λ r. ⌜ r ≡ callerOf caller ⌝ }
+{
+    if caller == 0 {
+        Caller::Clock
+    } else {
+        Caller::Barrel
+    }
+}
+
 // A commit on the state that the bytes hold.
 fn commit_as(
     state: &mut [u8],
     work: &mut [u8],
     output: &mut [u8],
+    caller: u32,
     out: &mut [u64; 4],
     way: Way,
 ) -> u32
-    ensures { λ r. ⌜ Calls (commit (wayOf way) (length (now (output .entry)))) (now (state .entry)) (now (work .entry)) (now (output .entry)) r (now (out .exit)) (now (state .exit)) (now (work .exit)) (now (output .exit)) ⌝ }
+    ensures { λ r. ⌜ Calls (commit (wayOf way) (callerOf caller) (length (now (output .entry)))) (now (state .entry)) (now (work .entry)) (now (output .entry)) r (now (out .exit)) (now (state .exit)) (now (work .exit)) (now (output .exit)) ⌝ }
 {
     let loaded = load(state);
     if !loaded.ok {
@@ -219,24 +231,25 @@ fn commit_as(
         return 6;
     }
     let before = loaded.state;
-    let answer = commit::apply(before, work, output, way);
+    let answer = commit::apply(before, work, output, way, caller_of(caller));
     let after = answer.state;
     store(after, state);
     *out = requests(answer);
     answer.number
 }
 
-// Puts what is to be written into the output, and says what to erase and where to write it.
+// Puts what is to be written into the output, and says what to erase and where to write it; the erase request counts for the caller.
 #[no_mangle]
 pub extern "C" fn feqyondil_commit(
     state: &mut [u8],
     work: &mut [u8],
     output: &mut [u8],
+    caller: u32,
     out: &mut [u64; 4],
 ) -> u32
-    ensures { λ r. ⌜ Calls (commit old (length (now (output .entry)))) (now (state .entry)) (now (work .entry)) (now (output .entry)) r (now (out .exit)) (now (state .exit)) (now (work .exit)) (now (output .exit)) ⌝ }
+    ensures { λ r. ⌜ Calls (commit old (callerOf caller) (length (now (output .entry)))) (now (state .entry)) (now (work .entry)) (now (output .entry)) r (now (out .exit)) (now (state .exit)) (now (work .exit)) (now (output .exit)) ⌝ }
 {
-    commit_as(state, work, output, out, Way::Old)
+    commit_as(state, work, output, caller, out, Way::Old)
 }
 
 // The same, but a refusal asks for nothing and leaves all as it was.
@@ -245,11 +258,12 @@ pub extern "C" fn feqyondil_careful_commit(
     state: &mut [u8],
     work: &mut [u8],
     output: &mut [u8],
+    caller: u32,
     out: &mut [u64; 4],
 ) -> u32
-    ensures { λ r. ⌜ Calls (commit careful (length (now (output .entry)))) (now (state .entry)) (now (work .entry)) (now (output .entry)) r (now (out .exit)) (now (state .exit)) (now (work .exit)) (now (output .exit)) ⌝ }
+    ensures { λ r. ⌜ Calls (commit careful (callerOf caller) (length (now (output .entry)))) (now (state .entry)) (now (work .entry)) (now (output .entry)) r (now (out .exit)) (now (state .exit)) (now (work .exit)) (now (output .exit)) ⌝ }
 {
-    commit_as(state, work, output, out, Way::Careful)
+    commit_as(state, work, output, caller, out, Way::Careful)
 }
 
 // Joins the Valid banks in the output, and says how long they are.

@@ -6,10 +6,14 @@ use mathlib.Core.Bool.{true, false}
 use mathlib.Core.Option.{Option, none, some}
 use Rattle.buffers.proofs.Laws.{clash}
 use Rattle.bank.specs.Bank.{Bank, Slot, empty, invalid, valid}
+use Rattle.tally.specs.declared.Tally.{Tally}
+use Rattle.tally.specs.Tally.{counted}
+use Rattle.tally.proofs.TallyLaws.{counted-none}
 use Rattle.records.specs.Checked.{isSome}
 use Rattle.book.specs.Book.{Book, activeSlot}
 use Rattle.book.specs.Call.{Call, edit, lookup, fetch, figures, commit, wholeImage, Answer, refusal, Outcome, stay, bySlot, step}
-use Rattle.book.specs.Tally.{Tally, tallied}
+use Rattle.book.specs.Tallied.{committer, tallied}
+use Rattle.book.proofs.RefusalLaws.{refusal-asks}
 use Rattle.nvram.specs.declared.state.Kind.{Kind}
 use Rattle.nvram.specs.declared.state.Kind.the-variants.{Empty, Invalid, Valid}
 use Rattle.nvram.specs.declared.state.Nvram.{Nvram}
@@ -39,12 +43,7 @@ does-6 c s w e =
 
 -- a refusal in the number alone is not counted
 pub refusal-tally : (c : Call) (k : ℕ) (t : Tally) → tallied c (refusal c k) t ≡ t
-refusal-tally (edit e) k t = refl
-refusal-tally (lookup key typ) k t = refl
-refusal-tally (fetch key typ) k t = refl
-refusal-tally figures k t = refl
-refusal-tally (commit way room) k t = refl
-refusal-tally (wholeImage room) k t = refl
+refusal-tally c k t = ap (λ (e : Option ℕ). counted (committer c) e t) (refusal-asks c k) ∙ counted-none (committer c) t
 
 -- what a call leaves, by the book's outcome
 pub record Leaves (c : Call) (o : Outcome) (s : Nvram) (w : List ℕ) (a : Answer) (x : List ℕ) (s′ : Nvram) (w′ : List ℕ) : Type 0 where
@@ -77,7 +76,7 @@ OnActive (edit e) = Unit {0}
 OnActive (lookup key typ) = Unit {0}
 OnActive (fetch key typ) = Unit {0}
 OnActive figures = Unit {0}
-OnActive (commit way room) = ⊥
+OnActive (commit way caller room) = ⊥
 OnActive (wholeImage room) = ⊥
 
 -- refused by 7: the active slot isn't Valid
@@ -93,7 +92,7 @@ step-7 b (edit e) u h = by-7 b (edit e) _ (activeSlot b) h
 step-7 b (lookup key typ) u h = by-7 b (lookup key typ) _ (activeSlot b) h
 step-7 b (fetch key typ) u h = by-7 b (fetch key typ) _ (activeSlot b) h
 step-7 b figures u h = by-7 b figures _ (activeSlot b) h
-step-7 b (commit way room) u h = absurd u
+step-7 b (commit way caller room) u h = absurd u
 step-7 b (wholeImage room) u h = absurd u
 
 -- what is done to the bank of the active slot

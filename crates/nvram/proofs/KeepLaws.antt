@@ -1,6 +1,7 @@
 -- What a call that meets its contract answers and leaves: on a sound state what the book says (`keeps`), by `view-lay`; and where it is
 -- refused, 12 of an old commit apart, nothing else than its number (`refusal-keeps`, to be read: demand 1 in one law);
--- so a careful commit that is refused changes nothing and asks for nothing (`careful-keeps`, to be read: 02, N4).
+-- so a careful commit that is refused changes nothing and asks for nothing (`careful-keeps`, to be read: 02, N4). On any state and work area
+-- the tallies are those before, with its erase request counted (`does-tally`), so that no other's call changes a caller's (`other-keeps`, to be read: 02, N7).
 use Prim.Native.Nat.{ℕ}
 use mathlib.Core.Path.{_≡_, refl, sym, ap, _∙_, subst}
 use mathlib.Core.List.{List, []}
@@ -9,31 +10,34 @@ use mathlib.Core.Option.{Option, none, some}
 use mathlib.Core.Bool.{Bool, true, false}
 use lib.ListN.{length}
 use Rattle.crc32.specs.Crc32.{Bytes}
+use Rattle.tally.specs.declared.Caller.{Caller}
+use Rattle.tally.specs.declared.Tally.{Tally}
+use Rattle.tally.specs.Tally.{tallyOf, isOwn}
+use Rattle.tally.proofs.TallyLaws.{other-counted}
 use Rattle.records.specs.Checked.{isSome}
 use Rattle.book.specs.Book.{Book, FineBook}
 use Rattle.book.specs.Commit.{careful}
-use Rattle.book.specs.Call.{Call, commit, ByteCall, Answer, committed, number, step, refusal, stay, Follows}
-use Rattle.book.specs.Tally.{Tally, tallied}
+use Rattle.book.specs.Call.{Call, commit, ByteCall, Answer, committed, number, erase, step, refusal, stay, Follows}
+use Rattle.book.specs.Tallied.{committer, tallied}
 use Rattle.book.proofs.StepLaws.{step-fine, not-old}
 use Rattle.book.proofs.RefusalLaws.{refusal-again, refused}
 use Rattle.nvram.specs.declared.state.Nvram.{Nvram}
 use Rattle.nvram.specs.Layout.{layState, layWork, view}
 use Rattle.nvram.specs.Contract.{onBook, call, Does}
 use Rattle.nvram.proofs.LayoutLaws.{view-lay}
-use Rattle.nvram.proofs.CallLaws.{does-6}
+use Rattle.nvram.proofs.CallLaws.{does-6, refusal-tally}
 use Rattle.nvram.proofs.ActiveLaws.{Sound, book, viewed, does-refuse}
 
 -- what a call that meets its contract answers and leaves
-pub record Kept (c : Call) (b : Book) (s : Nvram) (a : Answer) (x : List ℕ) (s′ : Nvram) (w′ : List ℕ) : Type 0 where
+pub record Kept (c : Call) (b : Book) (a : Answer) (x : List ℕ) (s′ : Nvram) (w′ : List ℕ) : Type 0 where
   pub answer : a ≡ step b c .answer
   pub out : x ≡ step b c .out
   pub viewed : view s′ w′ ≡ some (step b c .laid)
-  pub tally : s′ .tally ≡ tallied c a (s .tally)
 
 pub keeps : (c : Call) (s : Nvram) (w : List ℕ) (b : Book) (a : Answer) (x : List ℕ) (s′ : Nvram) (w′ : List ℕ) → ByteCall c → FineBook b
     → view s w ≡ some b
     → Does c s w a x s′ w′
-    → Kept c b s a x s′ w′
+    → Kept c b a x s′ w′
 unfolding call onBook
 keeps c s w b a x s′ w′ y f v d =
     let t : Book = step b c .laid in
@@ -45,7 +49,6 @@ keeps c s w b a x s′ w′ y f v d =
       answer = e;
       out = d .out ∙ ap (λ (o : Option Book). onBook o c s w .out) v;
       viewed = (λ i. view (p i) (q i)) ∙ view-lay t m w (step-fine b c y f);
-      tally = ap (λ (z : Nvram). z .tally) p ∙ ap (λ (z : Answer). tallied c z (s .tally)) (sym e);
     }
 
 -- whatever the state and the work area are, a call that is refused leaves them, and answers no more than its number
@@ -66,6 +69,23 @@ refusal-keeps c s w y l h m = go (isSome (view s w)) refl
         subst (λ (a : Answer). Does c s w a [] s w) (sym (refusal-again c 6) ∙ ap (λ (a : Answer). refusal c (number a)) (d .answer)) d
 
 -- of a careful commit
-pub careful-keeps : (room : ℕ) (s : Nvram) (w : List ℕ) → Bytes w → length (s .banks) ≡ 16 → number (call (commit careful room) s w .answer) ≢ 0
-    → Does (commit careful room) s w (committed (number (call (commit careful room) s w .answer)) none 0 0) [] s w
-careful-keeps room s w y l h = refusal-keeps (commit careful room) s w y l h (not-old (commit careful room) _ refl)
+pub careful-keeps : (caller : Caller) (room : ℕ) (s : Nvram) (w : List ℕ) → Bytes w → length (s .banks) ≡ 16 → number (call (commit careful caller room) s w .answer) ≢ 0
+    → Does (commit careful caller room) s w (committed (number (call (commit careful caller room) s w .answer)) none 0 0) [] s w
+careful-keeps caller room s w y l h = refusal-keeps (commit careful caller room) s w y l h (not-old (commit careful caller room) _ refl)
+
+-- the tallies after any call are those before, and its erase request counted for its caller
+pub does-tally : (c : Call) (s : Nvram) (w : List ℕ) (a : Answer) (x : List ℕ) (s′ : Nvram) (w′ : List ℕ) → Does c s w a x s′ w′ → s′ .tally ≡ tallied c a (s .tally)
+unfolding call onBook
+does-tally c s w a x s′ w′ d =
+    ap (λ (z : Nvram). z .tally) (d .state) ∙ go (view s w) ∙ ap (λ (z : Answer). tallied c z (s .tally)) (sym (d .answer))
+  where
+    go : (o : Option Book) → onBook o c s w .state .tally ≡ tallied c (onBook o c s w .answer) (s .tally)
+    go none = sym (refusal-tally c 6 (s .tally))
+    go (some b) = refl
+
+-- so no call changes the tally of a caller whose commit it isn't
+pub other-keeps : (caller : Caller) (c : Call) (s : Nvram) (w : List ℕ) (a : Answer) (x : List ℕ) (s′ : Nvram) (w′ : List ℕ) → Does c s w a x s′ w′
+    → isOwn caller (committer c) ≡ false
+    → tallyOf caller (s′ .tally) ≡ tallyOf caller (s .tally)
+other-keeps caller c s w a x s′ w′ d h =
+    ap (tallyOf caller) (does-tally c s w a x s′ w′ d) ∙ other-counted caller (committer c) (erase a) (s .tally) h

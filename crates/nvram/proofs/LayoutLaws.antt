@@ -14,6 +14,7 @@ use Rattle.buffers.proofs.BelowLaws.{below-take, below-drop}
 use Rattle.buffers.proofs.Laws.{clash, and-both}
 use Rattle.bank.specs.Bank.{Slot, invalid, partOf}
 use Rattle.bank.specs.Totals.{total}
+use Rattle.tally.specs.declared.Tally.{Tally}
 use Rattle.book.specs.Book.{partSize, Book, FineSlots, FineBook}
 use Rattle.nvram.specs.declared.state.Kind.{Kind}
 use Rattle.nvram.specs.declared.state.Kind.the-variants.{Empty, Invalid, Valid}
@@ -127,7 +128,7 @@ slots-view (s ∷ ss) m t f =
     ap₂ prependSlot (ap (viewSlot (entryOf s)) a ∙ slot-view s (f .0)) (ap (viewSlots (length ss) es) d ∙ slots-view ss m t (f .1))
 
 -- a book that is laid out is viewed again
-pub view-lay : (b : Book) (tally : ℕ) (w : List ℕ) → FineBook b → view (layState b tally) (layWork b w) ≡ some b
+pub view-lay : (b : Book) (tally : Tally) (w : List ℕ) → FineBook b → view (layState b tally) (layWork b w) ≡ some b
 unfolding view inRange layTable layWork bookWith
 view-lay b tally w f =
     let ss = b .slots in

@@ -5,10 +5,11 @@ use mathlib.Core.Path.{_≡_}
 use mathlib.Core.List.{List, []}
 use mathlib.Core.Option.{Option, none, some}
 use lib.ListN.{replicate}
+use Rattle.tally.specs.Tally.{noTally}
 use Rattle.book.specs.Book.{Book}
 use Rattle.book.specs.Opening.{Opened, opened, refused}
 use Rattle.book.specs.Call.{Call, Answer, refusal, step}
-use Rattle.book.specs.Tally.{tallied}
+use Rattle.book.specs.Tallied.{tallied}
 use Rattle.nvram.specs.declared.state.Kind.the-variants.{Empty}
 use Rattle.nvram.specs.declared.state.Nvram.{Nvram}
 use Rattle.nvram.specs.Part.{entry}
@@ -46,10 +47,10 @@ pub record Begun : Type 0 where
   pub state : Nvram
   pub work : List ℕ
 
--- a refused opening gives a state of zeros and Empty slots
+-- a refused opening gives a state of zeros and Empty slots; an accepted one starts both tallies at 0
 abbrev pub noState : Nvram
-noState = record { n = 0; active = 0; tally = 0; banks = replicate 16 (entry Empty 0 0) }
+noState = record { n = 0; active = 0; tally = noTally; banks = replicate 16 (entry Empty 0 0) }
 
 unfoldable pub begun : Opened → List ℕ → Begun
-begun (opened b) w = record { number = 0; state = layState b 0; work = layWork b w }
+begun (opened b) w = record { number = 0; state = layState b noTally; work = layWork b w }
 begun (refused k) w = record { number = k; state = noState; work = w }

@@ -6,8 +6,8 @@ use mathlib.Core.Option.{Option, none, some}
 use lib.ListN.{length, set, take, drop, replicate}
 use lib.Dec.{leb, ltb, eqb}
 use Rattle.bank.specs.Bank.{Slot, partOf}
+use Rattle.tally.specs.declared.Tally.{Tally}
 use Rattle.book.specs.Book.{partSize, Book}
-use Rattle.book.specs.Tally.{Tally}
 use Rattle.nvram.specs.declared.state.Kind.{Kind}
 use Rattle.nvram.specs.declared.state.Kind.the-variants.{Empty, Invalid, Valid}
 use Rattle.nvram.specs.declared.state.Entry.{Entry}
@@ -20,7 +20,7 @@ use Rattle.nvram.specs.Part.{entry, entryOf, viewSlot}
 unfoldable pub layTable : List Slot → List Entry
 layTable ss = map entryOf ss ++ replicate (16 - length ss) (entry Empty 0 0)
 
--- the tally is no part of the book
+-- the tallies are no part of the book
 abbrev pub layState : Book → Tally → Nvram
 layState b tally = record { n = b .n; active = b .active; tally = tally; banks = layTable (b .slots) }
 

@@ -10,7 +10,7 @@ pub use sound::is_sound;
 pub use state::Entry;
 pub use state::Kind;
 pub use state::Nvram;
-pub use state::Tally;
 pub use state::no_banks;
+pub use state::no_state;
 pub use summary::Soundness;
 pub use summary::Summary;

@@ -1,7 +1,9 @@
-// The state of a store: 01, 'Opening'.
+// The state of a store: 01, 'Opening'; 02, N7.
+use tally::Tally;
 ghost use mathlib.Core.Path.{_≡_};
 ghost use lib.ListN.{replicate};
 ghost use Rattle.nvram.specs.Part.{entry};
+ghost use Rattle.nvram.specs.Contract.{noState};
 
 // What a slot is.
 pub enum Kind {
@@ -17,10 +19,7 @@ pub struct Entry {
     pub usable: u32,
 }
 
-// Erase requests since opening.
-pub type Tally = u32;
-
-// n banks, of which one is active.
+// n banks, of which one is active, and the erase requests since opening.
 pub struct Nvram {
     pub n: u32,
     pub active: u32,
@@ -43,4 +42,18 @@ pub fn no_banks() -> [Entry; 16]
         usable: 0,
     };
     [none; 16]
+}
+
+// What a refused opening gives.
+pub fn no_state() -> Nvram
+    ensures { λ r. ⌜ r ≡ noState ⌝ }
+{
+    let tally = Tally::none();
+    let banks = no_banks();
+    Nvram {
+        n: 0,
+        active: 0,
+        tally,
+        banks,
+    }
 }

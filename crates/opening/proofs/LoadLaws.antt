@@ -11,6 +11,8 @@ use lib.ListN.{length, set, take, drop, replicate, length-append, length-take, l
 use lib.Seq.{take-take, drop-drop, take-at, set-at, append-snoc, drop-append-add}
 use borrow.Author.Tests.{le-leb}
 use borrow.Rule.Slice.PartMut.{putMid, post-is}
+use Rattle.tally.specs.declared.Tally.{Tally}
+use Rattle.tally.specs.Tally.{noTally}
 use Rattle.bank.specs.declared.partition.Partition.{Partition}
 use Rattle.bank.specs.declared.partition.Slot.{Slot as Parsed}
 use Rattle.bank.specs.declared.partition.Slot.the-variants as told
@@ -222,14 +224,15 @@ module _ (image before : List ℕ) (n i : ℕ) (work : List ℕ) (banks : List E
     all : i ≡ n
     all = omega (arith, l .within)
 
-    pub load-state : record { n = n; active = active; tally = 0; banks = banks } ≡ layState (bookOf (readSlots n image) n) 0
+    pub load-state : (tally : Tally) → tally ≡ noTally
+        → record { n = n; active = active; tally = tally; banks = banks } ≡ layState (bookOf (readSlots n image) n) noTally
     unfolding readSlots activeFrom
-    load-state =
+    load-state tally e =
         let z : n - i ≡ 0 = omega arith in
         let a : activeFrom 0 0 0 (readSlots n image) ≡ active =
         l .left ∙ ap (λ (k : ℕ). activeFrom i best active (readSlots k (drop (i * bankSize) image))) z in
         let t : banks ≡ layTable (readSlots n image) = l .table ∙ ap (λ (k : ℕ). layTable (readSlots k image)) all in
-        λ j. record { n = n; active = sym a j; tally = 0; banks = t j }
+        λ j. record { n = n; active = sym a j; tally = e j; banks = t j }
 
     pub load-work : work ≡ layWork (bookOf (readSlots n image) n) before
     unfolding layWork

@@ -7,6 +7,7 @@ use native.Mathlib.Nat.{zero-mul, sub-zero}
 use native.Mathlib.Omega.{arith}
 use lib.ListN.{length, drop}
 use borrow.Author.Tests.{lt-ltb, le-ltb, le-leb, lt-leb}
+use Rattle.tally.specs.Tally.{noTally}
 use Rattle.bank.specs.Bank.{bankSize}
 use Rattle.bank.proofs.PartitionLaws.{bank-size}
 use Rattle.book.specs.Book.{partSize}
@@ -112,7 +113,7 @@ module _ (image w : List ℕ) where
             let d = room in
             turned-down 4 r s p q (simp (le-ltb _ _ a, lt-leb _ _ b, le-ltb _ _ d, any-is ∙ f))
 
-        pub open-all : (s : Nvram) (v : List ℕ) → s ≡ layState (bookOf (readSlots count image) count) 0 → v ≡ layWork (bookOf (readSlots count image) count) w
+        pub open-all : (s : Nvram) (v : List ℕ) → s ≡ layState (bookOf (readSlots count image) count) noTally → v ≡ layWork (bookOf (readSlots count image) count) w
             → t ≡ true
             → Gives 0 s v answers
         unfolding opening begun

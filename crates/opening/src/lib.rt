@@ -5,11 +5,14 @@ use nvram::Entry;
 use nvram::Kind;
 use nvram::Nvram;
 use nvram::no_banks;
+use nvram::no_state;
+use tally::Tally;
 ghost use mathlib.Core.Path.{_≡_};
 ghost use mathlib.Core.List.{List, _∷_, _++_};
 ghost use Prim.Native.Nat.{suc, _+_, _*_, _≤_, _<_};
 ghost use lib.Dec.{ltb};
 ghost use lib.ListN.{length, take, drop};
+ghost use Rattle.tally.specs.Tally.{noTally};
 ghost use Rattle.bank.specs.Bank.{Slot as Read, partOf};
 ghost use Rattle.bank.specs.Answer.{answer};
 ghost use Rattle.book.specs.Book.{partSize, FineSlot};
@@ -33,13 +36,7 @@ struct Best {
 fn refused(number: u32) -> Opened
     ensures { λ r. ⌜ (r .number ≡ number) × (r .state ≡ noState) ⌝ }
 {
-    let banks = no_banks();
-    let state = Nvram {
-        n: 0,
-        active: 0,
-        tally: 0,
-        banks,
-    };
+    let state = no_state();
     Opened { number, state }
 }
 
@@ -147,7 +144,7 @@ fn load_bank(image: &[u8], work: &mut [u8], i: usize) -> Slot
 // The first n banks: their parts, their entries, and which is active.
 fn load(image: &[u8], work: &mut [u8], n: usize) -> Nvram
     requires { ⌜ (n ≤ 16) × (n * 65536 ≤ length (now image)) × (n * 131072 ≤ length (now work)) ⌝ }
-    ensures { λ r. ⌜ (r ≡ layState (bookOf (readSlots n (now (image .entry))) n) 0) × (now (work .exit) ≡ layWork (bookOf (readSlots n (now (image .entry))) n) (now (work .entry))) ⌝ }
+    ensures { λ r. ⌜ (r ≡ layState (bookOf (readSlots n (now (image .entry))) n) noTally) × (now (work .exit) ≡ layWork (bookOf (readSlots n (now (image .entry))) n) (now (work .entry))) ⌝ }
 {
     let mut banks = no_banks();
     let mut best = Best {
@@ -161,10 +158,11 @@ fn load(image: &[u8], work: &mut [u8], n: usize) -> Nvram
         best = best.after(i, slot);
         i += 1;
     }
+    let tally = Tally::none();
     Nvram {
         n: n as u32,
         active: best.active,
-        tally: 0,
+        tally,
         banks,
     }
 }

@@ -9,6 +9,8 @@ use nvram::Entry;
 use nvram::Kind;
 use nvram::Nvram;
 use requests::Erase;
+use tally::Caller;
+use tally::Tally;
 use variables::Edited;
 use variables::Lookup;
 use variables::Manner;
@@ -125,20 +127,28 @@ fn output_right(line: &[u8], k: usize, output: &[u8], long: usize) -> bool
 
 fn erase_right(line: &[u8], erase: Erase) -> bool {
     match erase {
-        Erase::Nothing => (decimal(line, 2) == 0) & (decimal(line, 3) == 0),
-        Erase::At(offset) => (decimal(line, 2) == 1) & (decimal(line, 3) == offset as u64),
+        Erase::Nothing => (decimal(line, 3) == 0) & (decimal(line, 4) == 0),
+        Erase::At(offset) => (decimal(line, 3) == 1) & (decimal(line, 4) == offset as u64),
+    }
+}
+
+fn caller(line: &[u8]) -> Caller {
+    if decimal(line, 1) == 0 {
+        Caller::Clock
+    } else {
+        Caller::Barrel
     }
 }
 
 pub(crate) fn commit(state: Nvram, work: &mut [u8], line: &[u8], way: Way) -> Committed {
     let mut output = output_room();
-    let done = commit::apply(state, work, &mut output, way);
+    let done = commit::apply(state, work, &mut output, way, caller(line));
     let after = done.state;
     let erase = done.erase;
-    let right = (decimal(line, 1) == done.number as u64)
+    let right = (decimal(line, 2) == done.number as u64)
         & erase_right(line, erase)
-        & (decimal(line, 4) == done.offset as u64)
-        & output_right(line, 5, &output, done.length);
+        & (decimal(line, 5) == done.offset as u64)
+        & output_right(line, 6, &output, done.length);
     Committed {
         right,
         state: after,
@@ -163,18 +173,25 @@ fn kind_number(kind: Kind) -> u64 {
 fn entry_right(line: &[u8], i: usize, entry: Entry) -> bool
     requires { ⌜ i < 16 ⌝ }
 {
-    let at = 4 + 3 * i;
+    let at = 6 + 3 * i;
     let kind = entry.kind;
     (decimal(line, at) == kind_number(kind))
         & (decimal(line, at + 1) == entry.total as u64)
         & (decimal(line, at + 2) == entry.usable as u64)
 }
 
+// Both callers' tallies, and their total.
+fn tally_right(line: &[u8], tally: Tally) -> bool {
+    (decimal(line, 3) == tally.clock as u64)
+        & (decimal(line, 4) == tally.barrel as u64)
+        & (decimal(line, 5) == tally.total() as u64)
+}
+
 pub(crate) fn state_right(state: Nvram, line: &[u8]) -> bool {
     let banks = state.banks;
     let mut right = (decimal(line, 1) == state.n as u64)
         & (decimal(line, 2) == state.active as u64)
-        & (decimal(line, 3) == state.tally as u64);
+        & tally_right(line, state.tally);
     let mut i: usize = 0;
     while i < 16 {
         let entry = banks[i];

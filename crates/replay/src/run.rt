@@ -39,12 +39,7 @@ pub(crate) struct Ran {
 
 // Before the first line: no image and no banks.
 fn fresh() -> Walk {
-    let state = Nvram {
-        n: 0,
-        active: 0,
-        tally: 0,
-        banks: nvram::no_banks(),
-    };
+    let state = nvram::no_state();
     Walk {
         right: true,
         long: 0,

@@ -1,25 +1,27 @@
--- What a commit asks and leaves, piece by piece: the erase request by the slot's kind, the tally with one more, the state after a move, and the
+-- What a commit asks and leaves, piece by piece: the erase request by the slot's kind, the tallies, the state after a move, and the
 -- output's front.
-use Prim.Native.Nat.{ℕ, _+_, _*_, _-_, _≤_, _<_}
+use Prim.Native.Nat.{ℕ, _+_, _*_, _-_, _≤_}
 use mathlib.Core.Path.{_≡_, refl, sym, ap, _∙_}
 use mathlib.Core.List.{List, _++_}
 use mathlib.Core.Logic.{_⊎_, inl, inr}
 use mathlib.Core.Option.{Option, none, some}
 use native.Mathlib.Omega.{arith}
-use native.Mathlib.Nat.{min-eq-left, min-eq-right}
 use lib.ListN.{length, set, take, drop, length-drop}
 use lib.Seq.{length-take-le}
 use Rattle.buffers.specs.Bytes.{onto}
 use Rattle.buffers.proofs.Laws.{clash, onto-fits}
+use Rattle.tally.specs.declared.Caller.{Caller}
+use Rattle.tally.specs.declared.Tally.{Tally}
+use Rattle.tally.specs.Tally.{counted}
+use Rattle.tally.proofs.TallyLaws.{counted-none}
 use Rattle.bank.specs.Bank.{Slot, empty, invalid, valid, bankSize}
 use Rattle.book.specs.Commit.{request}
-use Rattle.book.specs.Tally.{Tally, counted}
 use Rattle.nvram.specs.declared.state.Kind.{Kind}
 use Rattle.nvram.specs.declared.state.Kind.the-variants.{Empty, Invalid, Valid}
 use Rattle.nvram.specs.declared.state.Nvram.{Nvram}
 use Rattle.nvram.specs.Part.{entry, entryOf}
 use Rattle.requests.specs.declared.Erase.{Erase}
-use Rattle.requests.specs.declared.Erase.the-variants.{At}
+use Rattle.requests.specs.declared.Erase.the-variants.{Nothing, At}
 use Rattle.requests.specs.Applied.{eraseOf, movedState}
 
 -- the erase request, by the slot's kind
@@ -37,18 +39,18 @@ module _ {x : Kind} (i : ℕ) where
   request-some e invalid p = refl
   request-some e (valid k) p = refl
 
--- one more erase request
-module _ (t : Tally) {offset : ℕ} {e : Erase} (at : e ≡ At offset) where
-  pub tally-full : t ≡ 4294967295 → t ≡ counted (eraseOf e) t
-  tally-full h = h ∙ sym (min-eq-right (omega arith)) ∙ ap (λ (x : Erase). counted (eraseOf x) t) (sym at)
+-- the tallies, by what the code does with an erase request
+module _ (t : Tally) (caller : Caller) {e : Erase} where
+  pub tally-stays : e ≡ Nothing → t ≡ counted (some caller) (eraseOf e) t
+  tally-stays h = sym (counted-none (some caller) t) ∙ ap (λ (x : Erase). counted (some caller) (eraseOf x) t) (sym h)
 
-  pub tally-more : t + 1 < 4294967296 → t + 1 ≡ counted (eraseOf e) t
-  tally-more h = sym (min-eq-left (omega arith)) ∙ ap (λ (x : Erase). counted (eraseOf x) t) (sym at)
+  pub tally-more : {offset : ℕ} (t′ : Tally) → e ≡ At offset → ((at : ℕ) → t′ ≡ counted (some caller) (some at) t) → t′ ≡ counted (some caller) (eraseOf e) t
+  tally-more {offset = offset} t′ h p = p offset ∙ ap (λ (x : Erase). counted (some caller) (eraseOf x) t) (sym h)
 
-pub moved-is : (s : Nvram) (i total size : ℕ) (t : Tally) (e : Option ℕ) → t ≡ counted e (s .tally)
-    → record { n = s .n; active = i; tally = t; banks = set (s .banks) i (entry Valid total size) } ≡ movedState s i total size e
+pub moved-is : (s : Nvram) (i total size : ℕ) (t : Tally) (caller : Caller) (e : Option ℕ) → t ≡ counted (some caller) e (s .tally)
+    → record { n = s .n; active = i; tally = t; banks = set (s .banks) i (entry Valid total size) } ≡ movedState s i total size caller e
 unfolding movedState
-moved-is s i total size t e p = λ j. record { n = s .n; active = i; tally = p j; banks = set (s .banks) i (entry Valid total size) }
+moved-is s i total size t caller e p = λ j. record { n = s .n; active = i; tally = p j; banks = set (s .banks) i (entry Valid total size) }
 
 -- n bytes of w from a place on, over the front of an output
 pub front-written : (a n : ℕ) (w o y : List ℕ) → a + n ≤ length w → n ≤ length o → y ≡ onto (take (a + n - a) (drop a w)) o

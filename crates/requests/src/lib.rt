@@ -3,15 +3,17 @@ use bank::Partition;
 use nvram::Entry;
 use nvram::Kind;
 use nvram::Nvram;
-use nvram::Tally;
+use tally::Caller;
+use tally::Tally;
 ghost use mathlib.Core.Path.{_≡_};
 ghost use mathlib.Core.List.{_++_};
+ghost use mathlib.Core.Option.{some};
 ghost use Prim.Native.Nat.{_+_, _*_, _≤_, _<_};
 ghost use lib.ListN.{length, take, drop};
+ghost use Rattle.tally.specs.Tally.{counted};
 ghost use Rattle.bank.specs.Bank.{Slot};
 ghost use Rattle.book.specs.Commit.{request as requestOf};
 ghost use Rattle.book.specs.Call.{committed};
-ghost use Rattle.book.specs.Tally.{counted};
 ghost use Rattle.nvram.specs.Part.{entryOf};
 ghost use Rattle.requests.specs.Applied.{applied, eraseOf, movedState};
 
@@ -54,30 +56,24 @@ pub fn request(kind: Kind, i: usize) -> Erase
     }
 }
 
-// The tally stops at its greatest number.
-fn tally(tally: Tally, erase: Erase) -> Tally
-    ensures { λ r. ⌜ r ≡ counted (eraseOf erase) tally ⌝ }
+// The tallies after a commit of this caller.
+fn count(tally: Tally, caller: Caller, erase: Erase) -> Tally
+    ensures { λ r. ⌜ r ≡ counted (some caller) (eraseOf erase) tally ⌝ }
 {
     match erase {
         Erase::Nothing => tally,
-        Erase::At(_) => {
-            if tally == 4294967295 {
-                tally
-            } else {
-                tally + 1
-            }
-        }
+        Erase::At(_) => tally.count(caller),
     }
 }
 
-// The state with a bank of this total and size in slot i, which becomes active.
-pub fn moved(state: Nvram, i: usize, total: usize, size: u32, erase: Erase) -> Nvram
+// The state with a bank of this total and size in slot i, which becomes active; the erase request counts for the caller.
+pub fn moved(state: Nvram, i: usize, total: usize, size: u32, caller: Caller, erase: Erase) -> Nvram
     requires { ⌜ (i < 16) × (total ≤ 131072) ⌝ }
-    ensures { λ r. ⌜ r ≡ movedState state i total size (eraseOf erase) ⌝ }
+    ensures { λ r. ⌜ r ≡ movedState state i total size caller (eraseOf erase) ⌝ }
 {
     let mut next = state;
     next.active = i as u32;
-    next.tally = tally(state.tally, erase);
+    next.tally = count(state.tally, caller, erase);
     next.banks[i] = Entry {
         kind: Kind::Valid,
         total: total as u32,

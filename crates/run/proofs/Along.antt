@@ -1,8 +1,8 @@
 -- A run's pages, with what is known before each of them: the book beside the flash, and that the call answers what the book answers.
-use Prim.Native.Nat.{ℕ, _+_, _<_, min}
+use Prim.Native.Nat.{ℕ, _+_, _<_}
 use native.Mathlib.Omega.{arith}
 use mathlib.Core.Path.{_≡_, refl, sym, ap, _∙_, subst}
-use mathlib.Core.Option.{Option, none, some}
+use mathlib.Core.Option.{Option, some}
 use mathlib.Core.List.{List, [], _∷_, _++_}
 use Rattle.crc32.specs.Crc32.{Bytes}
 use Rattle.bank.specs.Bank.{Bank, valid}
@@ -12,7 +12,6 @@ use Rattle.book.specs.Edit.{editedBy}
 use Rattle.book.specs.Book.{Book, FineBook, activeSlot, withBank, slotSize}
 use Rattle.book.specs.Opening.{bankIn, readSlots, banksOf}
 use Rattle.book.specs.Call.{Call, Answer, committed, number, erase, refusal, Follows, Outcome, step}
-use Rattle.book.specs.Tally.{Tally, counted, tallied}
 use Rattle.book.proofs.Did.{refuses, reads, edits, writes, moves, overflows, Did, did}
 use Rattle.book.proofs.StepLaws.{next-inside, step-fine, settled}
 use Rattle.nvram.specs.declared.state.Nvram.{Nvram}
@@ -22,7 +21,7 @@ use Rattle.run.specs.Flash.{carriedOut}
 use Rattle.run.specs.Run.{Opens, Event, Run, openedBook, Page, pages, Each}
 use Rattle.run.specs.Wear.{activeSize, requested, requests}
 use Rattle.run.specs.Demand.{flashAfter}
-use Rattle.run.proofs.Idle.{Idle, idle-refusal, idle-read, idle-quiet, idle-flash, no-commit, tallied-erase}
+use Rattle.run.proofs.Idle.{Idle, idle-refusal, idle-read, idle-quiet, idle-flash, no-commit}
 use Rattle.run.proofs.EachLaws.{each-first, each-rest}
 use Rattle.run.proofs.FlashLaws.{bank-long}
 use Rattle.run.proofs.ChoiceLaws.{slot-at, active-most}
@@ -61,17 +60,17 @@ module _ (b₀ : Book) (f : List ℕ) (b : Book) (m : ℕ) (s : State b₀ f b m
         banks = s .banks;
         size = same-size (d .bank) _ (b .active) (d .was) (s .base .fine .inside) refl;
       }
-  stepped c o fine h (writes way room d) =
+  stepped c o fine h (writes way caller room d) =
       record {
         base = write-base f b (s .base) (d .bank) (d .was) (d .fits);
         fixed = λ p. write-current f b (s .base) (d .bank) (d .was) (d .fits) (s .fixed (omega arith)) .fixed;
         banks = s .banks;
         size = s .size;
       }
-  stepped c o fine h (moves way room d l) =
+  stepped c o fine h (moves way caller room d l) =
       let x = move-current f b (s .base) (d .bank) (d .was) l (d .left) fine in
       record { base = x .base; fixed = λ p. x .fixed; banks = s .banks; size = same-size (d .bank) _ _ (d .was) (next-inside b (s .base .fine)) refl }
-  stepped c o fine h (overflows room d l) = absurd (h refl refl)
+  stepped c o fine h (overflows caller room d l) = absurd (h refl refl)
 
   -- an accepted commit, an erase being requested by now
   committed-current : (c : Call) (o : Outcome) (e : Option ℕ) (offset long : ℕ) → FineBook (o .after) → Follows c (number (o .answer))
@@ -82,10 +81,10 @@ module _ (b₀ : Book) (f : List ℕ) (b : Book) (m : ℕ) (s : State b₀ f b m
   committed-current c o e offset long fine h a p (refuses k n) = absurd (no-commit (idle-refusal c k (n .not-0)) a)
   committed-current c o e offset long fine h a p (reads y x r) = absurd (no-commit (idle-read c y r) a)
   committed-current c o e offset long fine h a p (edits x d) = absurd (no-commit tt a)
-  committed-current c o e offset long fine h a p (writes way room d) =
+  committed-current c o e offset long fine h a p (writes way caller room d) =
       write-current f b (s .base) (d .bank) (d .was) (d .fits) (s .fixed (omega arith))
-  committed-current c o e offset long fine h a p (moves way room d l) = move-current f b (s .base) (d .bank) (d .was) l (d .left) fine
-  committed-current c o e offset long fine h a p (overflows room d l) = absurd (h refl refl)
+  committed-current c o e offset long fine h a p (moves way caller room d l) = move-current f b (s .base) (d .bank) (d .was) l (d .left) fine
+  committed-current c o e offset long fine h a p (overflows caller room d l) = absurd (h refl refl)
 
 -- a page that is of one call on the book b
 pub record At (b : Book) (p : Page) : Type 0 where
@@ -124,18 +123,13 @@ abbrev pub Along : Book → List ℕ → Book → ℕ → List Page → Type 0
 Along b₀ f b m [] = State b₀ f b m
 Along b₀ f b m (p ∷ ps) = State b₀ f b m × At b p × Along b₀ (flashOf f p) (p .after) (m + asks p) ps
 
--- each state's tally is the one before and the erase request
-abbrev pub Tallied : Tally → List Page → Type 0
-Tallied t [] = Unit {0}
-Tallied t (p ∷ ps) = (p .event .state .tally ≡ counted (erase (p .event .answer)) t) × Tallied (p .event .state .tally) ps
-
 -- a premise about each call, given the flash before it, by which the state follows the book
 module _ (Premise : List ℕ → Page → Type 0) (enough : (f : List ℕ) (p : Page) → Premise f p → Follows (p .event .call) (number (p .event .answer))) where
   along : (b₀ : Book) (f : List ℕ) (b : Book) (m : ℕ) (s : Nvram) (w : List ℕ) (es : List Event) → State b₀ f b m → view s w ≡ some b → Run s w es
       → Each (pages b es) (λ earlier p. Premise (flashAfter f earlier) p)
-      → Along b₀ f b m (pages b es) × Tallied (s .tally) (pages b es)
+      → Along b₀ f b m (pages b es)
   unfolding pages flashAfter
-  along b₀ f b m s w [] x v r n = (x, tt)
+  along b₀ f b m s w [] x v r n = x
   along b₀ f b m s w (e ∷ es) x v r n =
       let c = e .call in
       let p : Page = record { before = b; event = e; after = step b c .after } in
@@ -153,10 +147,8 @@ module _ (Premise : List ℕ → Page → Type 0) (enough : (f : List ℕ) (p : 
         follows = h;
         viewed = k .viewed ∙ ap some same;
       } in
-      let t : e .state .tally ≡ counted (erase (e .answer)) (s .tally) =
-      k .tally ∙ subst (λ (y : Answer). tallied c y (s .tally) ≡ counted (erase y) (s .tally)) (sym (k .answer)) (tallied-erase b c (step b c) (s .tally) (did b c)) in
       let rest = along b₀ (flashOf f p) (p .after) (m + asks p) (e .state) (e .work) es (turned b₀ f b m x p a) (a .viewed) (r .2) (each-rest p ps _ n) in
-      ((x, a, rest .0), (t, rest .1))
+      (x, a, rest)
 
 -- from the opening
 
@@ -178,14 +170,13 @@ at-start image work s w bytes q =
 pub opened-along : (Premise : List ℕ → Page → Type 0) → ((f : List ℕ) (p : Page) → Premise f p → Follows (p .event .call) (number (p .event .answer)))
     → (image work : List ℕ) (s : Nvram) (w : List ℕ) (es : List Event) → Opens image work s w → Run s w es
     → (let b = openedBook image in
-    Each (pages b es) (λ earlier p. Premise (flashAfter image earlier) p) → Along b image b 0 (pages b es) × Tallied 0 (pages b es))
+    Each (pages b es) (λ earlier p. Premise (flashAfter image earlier) p) → Along b image b 0 (pages b es))
 opened-along Premise enough image work s w es o r n =
     let b = openedBook image in
     let q = starts image work s w o in
     let x : State b image b 0 =
     record { base = at-start image work s w (o .bytes) q; fixed = λ h. absurd (omega arith); banks = refl; size = refl } in
-    subst (λ (t : Tally). Along b image b 0 (pages b es) × Tallied t (pages b es)) (q .tally)
-    (along Premise enough b image b 0 s w es x (q .viewed) r n)
+    along Premise enough b image b 0 s w es x (q .viewed) r n
 
 -- parts
 
@@ -211,17 +202,3 @@ pub requests-end : (ps : List Page) (p : Page) → requests (ps ++ (p ∷ [])) �
 unfolding requests
 requests-end [] p = omega arith
 requests-end (q ∷ ps) p = omega (arith, requests-end ps p)
-
--- the tally
-
-counted-is : (t : Tally) (k : ℕ) (o : Option ℕ) → t ≡ min k 4294967295 → counted o t ≡ min (k + requested o) 4294967295
-counted-is t k none h = omega arith
-counted-is t k (some x) h = omega arith
-
-pub tally-at : (t : Tally) (k : ℕ) (ps : List Page) (p : Page) (qs : List Page) → t ≡ min k 4294967295 → Tallied t (ps ++ (p ∷ qs))
-    → p .event .state .tally ≡ min (k + requests (ps ++ (p ∷ []))) 4294967295
-unfolding requests
-tally-at t k [] p qs h a = a .0 ∙ counted-is t k (erase (p .event .answer)) h ∙ omega arith
-tally-at t k (q ∷ ps) p qs h a =
-    let n = a .0 ∙ counted-is t k (erase (q .event .answer)) h in
-    omega (arith, tally-at (q .event .state .tally) (k + asks q) ps p qs n (a .1))

@@ -1,6 +1,6 @@
--- Every run meets demand 3 (`demand-3`): its parts are read off the pages of `opened-along`, the wear by `wear-within`, the reopening by `reopens`. It
--- has the weaker rule of the two readings and the smaller L, so both follow (`reading-01`, `reading-N4`).
-use Prim.Native.Nat.{ℕ, _+_, _-_, _≤_, min}
+-- Every run meets demand 3 (`demand-3`): its parts are read off the pages of `opened-along`, the wear by `wear-within`, the reopening by `reopens`,
+-- the tallies by `reading-N7`. It has the weaker rule of the two readings and the smaller L, so both follow (`reading-01`, `reading-N4`).
+use Prim.Native.Nat.{ℕ, _+_, _-_, _≤_}
 use mathlib.Core.Path.{_≡_, refl, sym, ap, _∙_, subst}
 use mathlib.Core.List.{List, _∷_, _++_}
 use mathlib.Core.Bool.{Bool, true}
@@ -13,7 +13,8 @@ use Rattle.book.proofs.RefusalLaws.{not-6}
 use Rattle.run.specs.Run.{openedBook, Page, pages}
 use Rattle.run.specs.Wear.{activeSize, allCommits, acceptedCommits, mostLive, requests}
 use Rattle.run.specs.Demand.{Answers, flashAfter, Demand3, Claim, Claim01, ClaimN4}
-use Rattle.run.proofs.Along.{At, Along, Tallied, flashOf, endOf, current-at, opened-along, along-split, flash-end, requests-end, tally-at}
+use Rattle.run.proofs.Along.{At, Along, flashOf, endOf, current-at, opened-along, along-split, flash-end, requests-end}
+use Rattle.run.proofs.Tallies.{reading-N7}
 use Rattle.run.proofs.Wear.{most-within, most-more, wear-within}
 use Rattle.run.proofs.Reopen.{reopens}
 
@@ -22,12 +23,12 @@ page-answers b p a =
     rw (a .before) (record { answer = a .answer; out = a .out; not-6 = λ q. not-6 b (p .event .call) (sym (ap number (a .answer)) ∙ q) })
 
 -- every run in which no old commit is refused by 12 meets demand 3, with L over accepted commits alone
-pub demand-3 : Claim Follows acceptedCommits
+pub demand-3 : Claim Follows (λ image. Demand3 image acceptedCommits)
 demand-3 image work s w es o r n =
     let b = openedBook image in
     let x = opened-along (λ f p. Follows (p .event .call) (number (p .event .answer))) (λ f p h. h) image work s w es o r n in
     let known : (earlier rest : List Page) → pages b es ≡ earlier ++ rest → Along b (flashAfter image earlier) (endOf b earlier) (0 + requests earlier) rest =
-    λ earlier rest h. along-split b image b 0 earlier rest (subst (Along b image b 0) h (x .0)) in
+    λ earlier rest h. along-split b image b 0 earlier rest (subst (Along b image b 0) h x) in
     record {
       answers = λ earlier p later h. page-answers (endOf b earlier) p (known earlier (p ∷ later) h .1);
       one-size = λ earlier p later h. let a = known earlier (p ∷ later) h in ap activeSize (a .1 .before) ∙ a .0 .size;
@@ -41,7 +42,7 @@ demand-3 image work s w es o r n =
           (reopens (flashOf (flashAfter image earlier) p) p
           (current-at b (flashAfter image earlier) (endOf b earlier) (0 + requests earlier) (a .0) p (a .1) e offset long c (omega (arith, requests-end earlier p)))
           (a .1 .viewed));
-      tally = λ earlier p later h. let t : 0 ≡ min 0 4294967295 = omega arith in tally-at 0 0 earlier p later t (subst (Tallied 0) h (x .1)) ∙ omega arith;
+      tallies = reading-N7 image work s w es o r (λ earlier p later h. tt);
     }
 
 -- L over more commits says less
@@ -57,7 +58,7 @@ over-more image counts counts′ h ps d =
           let less : S - mostLive counts′ (first ∷ between) + 1 ≤ S - mostLive counts (first ∷ between) + 1 = omega arith in
           le-trans (mul-le-mul-left (openedBook image .n) less) (d .wear earlier first between second later offset q u v (omega arith));
       reopening = d .reopening;
-      tally = d .tally;
+      tallies = d .tallies;
     }
 
 pub reading-01 : Claim01

@@ -3,7 +3,7 @@
 -- And the wear bound at the figures that 01 gives (`two-banks`).
 use Prim.Native.Nat.{ℕ, _+_, _-_, _*_, _/_, _≤_, _<_}
 use mathlib.Core.Path.{_≡_, refl, sym, ap, ap₂, _∙_, subst}
-use mathlib.Core.Bool.{Bool}
+use mathlib.Core.Bool.{Bool, false}
 use mathlib.Core.List.{List, [], _∷_, _++_}
 use mathlib.Core.Option.{none, some}
 use native.Mathlib.Omega.{arith}
@@ -14,6 +14,9 @@ use borrow.Author.Tests.{le-ltb, lt-leb}
 use Rattle.crc32.specs.Crc32.{Bytes}
 use Rattle.buffers.proofs.BelowLaws.{below-append, bytes-ff}
 use Rattle.buffers.specs.Bytes.{eqBytes}
+use Rattle.tally.specs.declared.Caller.{Caller}
+use Rattle.tally.specs.declared.Caller.the-variants.{Clock, Barrel}
+use Rattle.tally.specs.Tally.{isOwn}
 use Rattle.bank.specs.declared.header.StoreHeader.{StoreHeader}
 use Rattle.bank.specs.declared.variable.VarType.the-variants.{Common}
 use Rattle.bank.specs.Number.{le32}
@@ -33,6 +36,7 @@ use Rattle.book.specs.Book.{partSize, Book}
 use Rattle.book.specs.Commit.{Way, old, careful, judge, carefully, judgeAs, due, judgeBank, request}
 use Rattle.book.specs.Opening.{readSlots, activeFrom, anyValid, banksOf, bookOf, Opened, opened, opening}
 use Rattle.book.specs.Call.{Call, edit, commit, Answer, committed, number, erase, bySlot, editAs, editBank, moveIn, commitAs, commitBank, commitTo, step, Follows}
+use Rattle.book.specs.Tallied.{committer}
 use Rattle.book.proofs.StepLaws.{not-old}
 use Rattle.nvram.specs.declared.state.Nvram.{Nvram}
 use Rattle.nvram.specs.Contract.{begun}
@@ -116,12 +120,12 @@ abbrev put : Manner → ℕ → Call
 put m long = edit (insert m (replicate long 255) (replicate 10 255) Common)
 
 -- the second insert and the third make the commit move, with 72 bytes live; the fourth brings them to 121, over the size until it is removed. The
--- last two are the barrels' (02, N5)
+-- last two are the barrels' (02, N5), and so are the second commit and the third (02, N7)
 abbrev calls : Way → List Call
 calls way =
-    put plain 1 ∷ put plain 1 ∷ commit way 65536 ∷ put barrel 1 ∷ commit way 65536 ∷ put barrel 2 ∷ commit careful 65536
+    put plain 1 ∷ put plain 1 ∷ commit way Clock 65536 ∷ put barrel 1 ∷ commit way Barrel 65536 ∷ put barrel 2 ∷ commit careful Barrel 65536
     ∷ edit (remove (replicate 2 255) Common)
-    ∷ commit careful 65536
+    ∷ commit careful Clock 65536
     ∷ []
 
 calls-bytes : (way : Way) → ByteCalls (calls way)
@@ -134,7 +138,7 @@ all-careful = (refl, (refl, (refl, (refl, (refl, (refl, (refl, (refl, (refl, tt)
 
 no-12 : (way : Way) → No12 book (calls way)
 unfolding No12 step bySlot editBank editAs refusedInsert refusedEdit editedBy grows commitTo commitBank commitAs judgeBank judgeAs judge carefully due moveIn total liveTotal select liveOf live sizes sizeOf matches deleted deletedState typeOf eqBytes request bankSize partSize
-no-12 old = ((λ o e. omega arith), ((λ o e. omega arith), ((λ o e. omega arith), ((λ o e. omega arith), ((λ o e. omega arith), ((λ o e. omega arith), (not-old (commit careful 65536) _ refl, ((λ o e. omega arith), ((λ o e. omega arith), tt)))))))))
+no-12 old = ((λ o e. omega arith), ((λ o e. omega arith), ((λ o e. omega arith), ((λ o e. omega arith), ((λ o e. omega arith), ((λ o e. omega arith), (not-old (commit careful Barrel 65536) _ refl, ((λ o e. omega arith), ((λ o e. omega arith), tt)))))))))
 no-12 careful = careful-no12 book (calls careful) all-careful
 
 -- what they ask for
@@ -159,6 +163,12 @@ pub record Twice (counts : ℕ → Bool) (b : Book) (es : List Event) : Type 0 w
   pub barrels : next .event .call ≡ edit (insert barrel key value Common)
   pub inserted : insertedBytes between ≡ grows (insert barrel key value Common)
   pub requested-once : 0 < requests (earlier ++ (first ∷ []))
+  -- one request is the clock's, the other the barrel's
+  pub one : Caller
+  pub other : Caller
+  pub first-by : committer (first .event .call) ≡ some one
+  pub second-by : committer (second .event .call) ≡ some other
+  pub apart : isOwn one (some other) ≡ false
 
 -- and between them a careful commit that is refused by 12; with it L would be over S
 pub record Despite12 (b : Book) (es : List Event) : Type 0 where
@@ -192,6 +202,11 @@ module _ (f : List ℕ) (s : Nvram) (w : List ℕ) where
         barrels = refl;
         inserted = rw (a .2 .2 .2 .1 .answer) refl;
         requested-once = omega (arith, ap (λ (x : Answer). requested (erase x)) (a .2 .2 .1 .answer));
+        one = Clock;
+        other = Barrel;
+        first-by = refl;
+        second-by = refl;
+        apart = refl;
       }
 
   despite-12 : Along book f book 0 (pages book (eventsOf s w (calls careful))) → Despite12 book (eventsOf s w (calls careful))
@@ -218,6 +233,11 @@ module _ (f : List ℕ) (s : Nvram) (w : List ℕ) where
               barrels = refl;
               inserted = rw (b .2 .1 .answer, b .2 .2 .2 .1 .answer) refl;
               requested-once = omega (arith, ap (λ (x : Answer). requested (erase x)) (b .1 .answer));
+              one = Barrel;
+              other = Clock;
+              first-by = refl;
+              second-by = refl;
+              apart = refl;
             };
         before = _ ∷ [];
         refused = _;
@@ -275,7 +295,7 @@ module _ (way : Way) where
         keeps = h;
         asks =
             subst (λ (b : Book). Along b image b 0 (pages b es) → Asks b es) (sym book-opened) asks
-            (opened-along (λ f p. Follows (p .event .call) (number (p .event .answer))) (λ f p x. x) image work s w es opened-image r follows .0);
+            (opened-along (λ f p. Follows (p .event .call) (number (p .event .answer))) (λ f p x. x) image work s w es opened-image r follows);
       }
 
 -- 01's reading, in a run with both commits

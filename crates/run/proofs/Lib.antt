@@ -6,6 +6,7 @@ pub mod ChoiceLaws
 pub mod Invariant
 pub mod Start
 pub mod Along
+pub mod Tallies
 pub mod Reopen
 pub mod Wear
 pub mod Demand

@@ -7,6 +7,7 @@ use mathlib.Core.Option.{Option, some}
 use mathlib.Core.List.{List}
 use lib.ListN.{length, getD}
 use borrow.Author.Tests.{le-ltb, lt-leb}
+use Rattle.tally.specs.Tally.{noTally}
 use Rattle.bank.specs.declared.variable.VarType.{VarType}
 use Rattle.bank.specs.Record.{Record}
 use Rattle.bank.specs.Bank.{Bank, invalid, valid, bankSize, padded, bankBytes, bankOf}
@@ -57,7 +58,7 @@ on-out c s w b v = ap (λ (o : Option Book). onBook o c s w .out) v
 -- what an opening leaves holds the opened book
 begun-view : (o : Opened) (work : List ℕ) (b : Book) → FineBook b → o ≡ opened b → view (begun o work .state) (begun o work .work) ≡ some b
 unfolding begun
-begun-view o work b f e = ap (λ (x : Opened). view (begun x work .state) (begun x work .work)) e ∙ view-lay b 0 work f
+begun-view o work b f e = ap (λ (x : Opened). view (begun x work .state) (begun x work .work)) e ∙ view-lay b noTally work f
 
 module _ (f : List ℕ) (b : Book) (s : UpToDate f b) where
   abbrev x : InFlash f b

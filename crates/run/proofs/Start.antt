@@ -1,4 +1,4 @@
--- What an accepted opening leaves (`starts`): state and work area hold the opened book, which is well-formed, and the tally is 0.
+-- What an accepted opening leaves (`starts`): state and work area hold the opened book, which is well-formed, and both tallies are 0.
 use Prim.Native.Nat.{ℕ, _*_, _<_}
 use mathlib.Core.Path.{_≡_, refl, ap, _∙_}
 use mathlib.Core.List.{List}
@@ -8,6 +8,7 @@ use lib.Dec.{leb, ltb}
 use lib.ListN.{length}
 use borrow.Author.Tests.{leb-false}
 use Rattle.buffers.proofs.Laws.{by-test}
+use Rattle.tally.specs.Tally.{noTally}
 use Rattle.bank.specs.Bank.{bankSize}
 use Rattle.book.specs.Book.{partSize, FineBook}
 use Rattle.book.specs.Opening.{readSlots, anyValid, banksOf, Opened, opened, opening}
@@ -36,7 +37,7 @@ pub record Starts (image work : List ℕ) (s : Nvram) (w : List ℕ) : Type 0 wh
   pub fine : FineBook (openedBook image)
   pub most : length image < 17 * bankSize
   pub viewed : view s w ≡ some (openedBook image)
-  pub tally : s .tally ≡ 0
+  pub tally : s .tally ≡ noTally
 
 pub starts : (image work : List ℕ) (s : Nvram) (w : List ℕ) → Opens image work s w → Starts image work s w
 unfolding begun
@@ -48,6 +49,6 @@ starts image work s w o =
       opens = q;
       fine = f;
       most = accepted-book image work (o .accepted) .1;
-      viewed = (λ i. view ((o .state ∙ ap (λ (x : Opened). begun x work .state) q) i) ((o .left ∙ ap (λ (x : Opened). begun x work .work) q) i)) ∙ view-lay b 0 work f;
+      viewed = (λ i. view ((o .state ∙ ap (λ (x : Opened). begun x work .state) q) i) ((o .left ∙ ap (λ (x : Opened). begun x work .work) q) i)) ∙ view-lay b noTally work f;
       tally = ap (λ (x : Nvram). x .tally) (o .state ∙ ap (λ (x : Opened). begun x work .state) q);
     }

@@ -118,10 +118,10 @@ one-call : (S L D : ℕ) → D + L ≤ suc S → (b : Book) (c : Call) (o : Outc
 one-call S L D d b c o f g h l (refuses k n) = went-nowhere S D b _ g
 one-call S L D d b c o f g h l (reads a x r) = went-nowhere S D b _ g
 one-call S L D d b c o f g h l (edits e x) = went-edit S b f (x .bank) g (x .was) D (editedBy e (x .bank .records)) _ (sizes-edited e (x .bank .records))
-one-call S L D d b c o f g h l (writes way room x) = went-nowhere S D b _ g
-one-call S L D d b c o f g h l (moves way room x _) =
+one-call S L D d b c o f g h l (writes way caller room x) = went-nowhere S D b _ g
+one-call S L D d b c o f g h l (moves way caller room x _) =
     went-move S b f (x .bank) g (x .was) L D d _ (x .due) (subst (λ (s : Slot). slotLive s ≤ L) (x .was) (l refl))
-one-call S L D d b c o f g h l (overflows room x _) = absurd (h refl refl)
+one-call S L D d b c o f g h l (overflows caller room x _) = absurd (h refl refl)
 
 joined : (S D : ℕ) (b b′ b″ : Book) (x y : ℕ) → MovesBetween S D b b′ x → MovesBetween S D b′ b″ y → MovesBetween S D b b″ (x + y)
 joined S D b b′ b″ x y u v =
@@ -169,10 +169,10 @@ asked : (b : Book) (c : Call) (o : Outcome) (k : ℕ) → Follows c (number (o .
 asked b c o k h q (refuses n x) = absurd (no-request (refusal c n) (idle-refusal c n (x .not-0)) q)
 asked b c o k h q (reads a x r) = absurd (no-request a (idle-read c a r) q)
 asked b c o k h q (edits e d) = absurd (no-request (edited 0) tt q)
-asked b c o k h q (writes way room d) = clash cc
-asked b c o k h q (moves way room d l) =
+asked b c o k h q (writes way caller room d) = clash cc
+asked b c o k h q (moves way caller room d l) =
     record { due = d; accepted = refl; becomes = refl; live = rw (d .was); next = asked-slot (nextSlot b) (nextBank b) k q }
-asked b c o k h q (overflows room d l) = absurd (h refl refl)
+asked b c o k h q (overflows caller room d l) = absurd (h refl refl)
 
 asked-page : (b : Book) (p : Page) (k : ℕ) → At b p → erase (p .event .answer) ≡ some k → Asked b (p .event .call) (step b (p .event .call)) k
 asked-page b p k a q =

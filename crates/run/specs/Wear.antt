@@ -1,15 +1,18 @@
--- What the wear bound counts (01, 'A run, its book and the flash'; 02, N4 and N5): S, the active bank's size; L, the most that live records come to at
--- commits; the bytes inserted; and erase requests.
+-- What the wear bound counts (01, 'A run, its book and the flash'; 02, N4, N5 and N7): S, the active bank's size; L, the most that live records come to at
+-- commits; the bytes inserted; and erase requests, by caller too.
 use Prim.Native.Nat.{ℕ, zero, suc, _+_, max}
 use mathlib.Core.List.{List, [], _∷_}
 use mathlib.Core.Bool.{Bool, true, cond}
 use mathlib.Core.Option.{Option, none, some}
 use lib.Dec.{eqb}
+use Rattle.tally.specs.declared.Caller.{Caller}
+use Rattle.tally.specs.Tally.{isOwn}
 use Rattle.bank.specs.Bank.{Slot, empty, invalid, valid}
 use Rattle.bank.specs.Totals.{liveTotal}
 use Rattle.book.specs.Edit.{grows}
 use Rattle.book.specs.Book.{Book, activeSlot, slotSize}
-use Rattle.book.specs.Call.{Call, edit, lookup, fetch, figures, commit, wholeImage, number, erase}
+use Rattle.book.specs.Call.{Call, edit, lookup, fetch, figures, commit, wholeImage, Answer, number, erase}
+use Rattle.book.specs.Tallied.{committer}
 use Rattle.run.specs.Run.{Page}
 
 -- S: the size in the header of the book's active bank
@@ -27,7 +30,7 @@ liveAt b (edit e) = 0
 liveAt b (lookup key typ) = 0
 liveAt b (fetch key typ) = 0
 liveAt b figures = 0
-liveAt b (commit way room) = slotLive (activeSlot b)
+liveAt b (commit way caller room) = slotLive (activeSlot b)
 liveAt b (wholeImage room) = 0
 
 -- the commits that L is over, by their numbers: all, refused ones too (01), or accepted ones alone (02, N4)
@@ -50,7 +53,7 @@ added (edit e) (suc k) = 0
 added (lookup key typ) k = 0
 added (fetch key typ) k = 0
 added figures k = 0
-added (commit way room) k = 0
+added (commit way caller room) k = 0
 added (wholeImage room) k = 0
 
 -- the record sizes of a list's accepted inserts, summed without a stop
@@ -68,3 +71,12 @@ requested (some offset) = 1
 unfoldable pub requests : List Page → ℕ
 requests [] = 0
 requests (p ∷ ps) = requested (erase (p .event .answer)) + requests ps
+
+-- of these, the number in a caller's own commits (02, N7)
+
+abbrev pub requestedBy : Caller → Call → Answer → ℕ
+requestedBy caller c a = cond (isOwn caller (committer c)) (requested (erase a)) 0
+
+unfoldable pub requestsBy : Caller → List Page → ℕ
+requestsBy caller [] = 0
+requestsBy caller (p ∷ ps) = requestedBy caller (p .event .call) (p .event .answer) + requestsBy caller ps

@@ -7,20 +7,19 @@ use mathlib.Core.Option.{none, some}
 use native.Mathlib.Omega.{arith}
 use native.Mathlib.Numerals.{add-one}
 use lib.Dec.{leb}
-use lib.ListN.{length, getD, set, take, drop, length-append, length-drop, length-set, drop-of-length-le}
+use lib.ListN.{length, getD, set, take, drop, length-drop, length-set, drop-of-length-le}
 use lib.Seq.{drop-drop, drop-cons, take-suc-set, take-all}
 use borrow.Author.Tests.{le-leb, lt-leb}
 use Rattle.buffers.specs.Bytes.{over}
 use Rattle.buffers.proofs.LoopSteps.{tail}
 use Rattle.buffers.proofs.OverLaws.{over-none, length-over, over-over}
 use Rattle.bank.specs.Number.{u32At, le32}
-use Rattle.bank.proofs.NumberLaws.{length-le32}
 use Rattle.nvram.specs.declared.state.Kind.the-variants.{Empty}
 use Rattle.nvram.specs.declared.state.Entry.{Entry}
 use Rattle.nvram.specs.declared.state.Nvram.{Nvram}
 use Rattle.nvram.specs.Part.{entry}
-use Rattle.state_bytes.specs.State.{stateHead, entrySize, stateSize, kindNumber, three, entryBytes, entriesBytes, stateBytes, stored, entryAt, entriesAt, stateAt, kindsKnown, readState}
-use Rattle.state_bytes.proofs.StateLaws.{length-three, length-entries, length-state, read-known}
+use Rattle.state_bytes.specs.State.{stateHead, entrySize, stateSize, kindNumber, three, four, entryBytes, entriesBytes, stateBytes, stored, entryAt, entriesAt, stateAt, kindsKnown, readState}
+use Rattle.state_bytes.proofs.StateLaws.{length-three, length-four, length-entries, length-state, read-known}
 
 -- reading
 
@@ -84,10 +83,10 @@ module _ {bs : List ℕ} {es : List Entry} {i : ℕ} (r : Reading bs es i) where
           room = r .room;
         }
 
-  pub read-all : (n a t : ℕ) → i ≡ 16 → n ≡ u32At bs 0 → a ≡ u32At bs 4 → t ≡ u32At bs 8
-      → readState bs ≡ some (record { n = n; active = a; tally = t; banks = es })
+  pub read-all : (n a c b : ℕ) → i ≡ 16 → n ≡ u32At bs 0 → a ≡ u32At bs 4 → c ≡ u32At bs 8 → b ≡ u32At bs 12
+      → readState bs ≡ some (record { n = n; active = a; tally = record { clock = c; barrel = b }; banks = es })
   unfolding kindsKnown entriesAt stateAt
-  read-all n a t e p q u =
+  read-all n a c b e p q u v =
       let known : kindsKnown 16 (drop stateHead bs) ≡ true =
       r .known ∙ ap (λ (k : ℕ). kindsKnown (16 - k) (drop (stateHead + entrySize * k) bs)) e in
       let banks : entriesAt 16 (drop stateHead bs) ≡ es =
@@ -95,22 +94,22 @@ module _ {bs : List ℕ} {es : List Entry} {i : ℕ} (r : Reading bs es i) where
       ∙ append-nil (take 16 es)
       ∙ take-all 16 es (omega (arith, r .long)) in
       read-known bs (r .room) known
-      ∙ (λ j. some (record { n = sym p j; active = sym q j; tally = sym u j; banks = banks j }))
+      ∙ (λ j. some (record { n = sym p j; active = sym q j; tally = record { clock = sym u j; barrel = sym v j }; banks = banks j }))
 
 -- writing
 
-pub put-three : (at : ℕ) (a b c : ℕ) (w w₁ w₂ w₃ : List ℕ) → at + 12 ≤ length w → w₁ ≡ over at (le32 a) w → w₂ ≡ over (at + 4) (le32 b) w₁
-    → w₃ ≡ over (at + 8) (le32 c) w₂
-    → w₃ ≡ over at (three a b c) w
-put-three at a b c w w₁ w₂ w₃ h p q r =
-    let la = length-le32 a in
-    let lb = length-le32 b in
-    let lc = length-le32 c in
-    let two : w₂ ≡ over at (le32 a ++ le32 b) w =
-    q ∙ ap (over (at + 4) (le32 b)) p ∙ over-over at (at + 4) (le32 a) (le32 b) w (omega arith) (omega arith) in
-    let l : at + 8 ≡ at + length (le32 a ++ le32 b) = omega (arith, length-append (le32 a) (le32 b)) in
-    r ∙ ap (over (at + 8) (le32 c)) two ∙ over-over at (at + 8) (le32 a ++ le32 b) (le32 c) w l (omega arith)
-    ∙ ap (λ (x : List ℕ). over at x w) (append-assoc (le32 a) (le32 b) (le32 c))
+-- numbers joined, byte by byte
+pub joined-three : (x y z : List ℕ) (a b c : ℕ) → x ≡ le32 a → y ≡ le32 b → z ≡ le32 c
+    → getD x 0 0 ∷ getD x 1 0 ∷ getD x 2 0 ∷ getD x 3 0 ∷ getD y 0 0 ∷ getD y 1 0 ∷ getD y 2 0 ∷ getD y 3 0 ∷ getD z 0 0 ∷ getD z 1 0 ∷ getD z 2 0 ∷ getD z 3 0 ∷ []
+    ≡ three a b c
+unfolding le32
+joined-three x y z a b c p q r = cc
+
+pub joined-four : (x y : List ℕ) (a b c d : ℕ) → x ≡ le32 a → y ≡ three b c d
+    → getD x 0 0 ∷ getD x 1 0 ∷ getD x 2 0 ∷ getD x 3 0 ∷ getD y 0 0 ∷ getD y 1 0 ∷ getD y 2 0 ∷ getD y 3 0 ∷ getD y 4 0 ∷ getD y 5 0 ∷ getD y 6 0 ∷ getD y 7 0 ∷ getD y 8 0 ∷ getD y 9 0 ∷ getD y 10 0 ∷ getD y 11 0 ∷ []
+    ≡ four a b c d
+unfolding le32
+joined-four x y a b c d p q = cc
 
 -- i entries are written
 pub record Writing (es : List Entry) (w₀ w : List ℕ) (i : ℕ) : Type 0 where
@@ -127,11 +126,17 @@ module _ {es : List Entry} {w₀ w : List ℕ} {i : ℕ} (r : Writing es w₀ w 
   abbrev x : Entry
   x = getD es i (entry Empty 0 0)
 
-  pub writing-more : (k : ℕ) (w₁ : List ℕ) → i < 16 → k ≡ kindNumber (x .kind) → w₁ ≡ over (stateHead + entrySize * i) (three k (x .total) (x .usable)) w
+  -- there is room for the next entry
+  pub entry-room : (a b c : ℕ) (q : List ℕ) → q ≡ three a b c → i < 16 → stateHead + entrySize * i + length q ≤ length w
+  entry-room a b c q e lt = omega (arith, ap length e, length-three a b c, r .room, r .same)
+
+  pub writing-more : (k : ℕ) (numbers w₁ : List ℕ) → i < 16 → k ≡ kindNumber (x .kind) → numbers ≡ three k (x .total) (x .usable)
+      → w₁ ≡ over (stateHead + entrySize * i) numbers w
       → Writing es w₀ w₁ (i + 1)
   unfolding entriesBytes
-  writing-more k w₁ lt p q =
-      let e : w₁ ≡ over (stateHead + entrySize * i) (entryBytes x) w = q ∙ ap (λ (n : ℕ). over (stateHead + entrySize * i) (three n (x .total) (x .usable)) w) p in
+  writing-more k numbers w₁ lt p t q =
+      let e : w₁ ≡ over (stateHead + entrySize * i) (entryBytes x) w =
+      q ∙ ap (λ (y : List ℕ). over (stateHead + entrySize * i) y w) (t ∙ ap (λ (n : ℕ). three n (x .total) (x .usable)) p) in
       let todo = entriesBytes (drop (i + 1) es) in
       let lx : length (entryBytes x) ≡ entrySize = length-three (kindNumber (x .kind)) (x .total) (x .usable) in
       let bound : stateHead + entrySize * (i + 1) + length todo ≤ length w =
@@ -150,18 +155,20 @@ module _ {es : List Entry} {w₀ w : List ℕ} {i : ℕ} (r : Writing es w₀ w 
         room = r .room;
       }
 
-  pub written : (s : Nvram) (bs : List ℕ) → i ≡ 16 → es ≡ s .banks → stateSize ≤ length bs → w₀ ≡ over 0 (three (s .n) (s .active) (s .tally)) bs
+  pub written : (s : Nvram) (numbers bs : List ℕ) → i ≡ 16 → es ≡ s .banks → stateSize ≤ length bs
+      → numbers ≡ four (s .n) (s .active) (s .tally .clock) (s .tally .barrel)
+      → w₀ ≡ over 0 numbers bs
       → w ≡ stored s bs
   unfolding over stored stateBytes entriesBytes
-  written s bs n b h e =
-      let head = three (s .n) (s .active) (s .tally) in
-      let lh : length head ≡ stateHead = length-three (s .n) (s .active) (s .tally) in
+  written s numbers bs n b h t e =
+      let head = four (s .n) (s .active) (s .tally .clock) (s .tally .barrel) in
+      let lh : length head ≡ stateHead = length-four (s .n) (s .active) (s .tally .clock) (s .tally .barrel) in
       let le : length (entriesBytes es) ≡ 192 = omega (arith, r .long, length-entries es) in
       let done : w ≡ over stateHead (entriesBytes es) w₀ =
       sym (over-none (stateHead + entrySize * i) w)
       ∙ ap (λ (l : List Entry). over (stateHead + entrySize * i) (entriesBytes l) w) (sym (drop-of-length-le es {i = i} (omega (arith, r .long))))
       ∙ r .rest in
       let whole : 0 + length (stateBytes s) ≡ stateSize = omega (arith, length-state s (sym (ap length b) ∙ r .long)) in
-      done ∙ ap (over stateHead (entriesBytes es)) e ∙ over-over 0 stateHead head (entriesBytes es) bs (omega arith) (omega arith)
+      done ∙ ap (over stateHead (entriesBytes es)) (e ∙ ap (λ (y : List ℕ). over 0 y bs) t) ∙ over-over 0 stateHead head (entriesBytes es) bs (omega arith) (omega arith)
       ∙ ap (λ (l : List Entry). over 0 (head ++ entriesBytes l) bs) b
       ∙ ap (λ (k : ℕ). stateBytes s ++ drop k bs) whole

@@ -12,6 +12,7 @@ use borrow.Author.Tests.{le-leb, leb-true}
 use Rattle.crc32.specs.Crc32.{Bytes}
 use Rattle.buffers.proofs.BelowLaws.{below-drop}
 use Rattle.buffers.proofs.Laws.{clash}
+use Rattle.tally.specs.declared.Caller.the-variants.{Clock, Barrel}
 use Rattle.bank.specs.Number.{u32At, le32}
 use Rattle.bank.proofs.NumberLaws.{u32-sum, u32-lt}
 use Rattle.bank.proofs.Normal.{u32-split}
@@ -20,7 +21,7 @@ use Rattle.nvram.specs.declared.state.Kind.the-variants.{Empty, Invalid, Valid}
 use Rattle.nvram.specs.declared.state.Entry.{Entry}
 use Rattle.nvram.specs.declared.state.Nvram.{Nvram}
 use Rattle.nvram.specs.Contract.{noState}
-use Rattle.state_bytes.specs.State.{stateHead, entrySize, stateSize, kindNumber, three, entryBytes, entriesBytes, stateBytes, stored, kindOf, entryAt, entriesAt, stateAt, kindsKnown, readState, FineEntries, FineState}
+use Rattle.state_bytes.specs.State.{stateHead, entrySize, stateSize, kindNumber, three, four, entryBytes, entriesBytes, stateBytes, stored, kindOf, entryAt, entriesAt, stateAt, kindsKnown, readState, FineEntries, FineState}
 
 -- lengths
 
@@ -28,17 +29,23 @@ pub length-three : (a b c : ℕ) → length (three a b c) ≡ 12
 unfolding le32
 length-three a b c = refl
 
+pub length-four : (a b c d : ℕ) → length (four a b c d) ≡ stateHead
+unfolding le32
+length-four a b c d = refl
+
 pub length-entries : (es : List Entry) → length (entriesBytes es) ≡ entrySize * length es
 unfolding entriesBytes
 length-entries [] = refl
 length-entries (e ∷ es) =
     length-append (entryBytes e) (entriesBytes es) ∙ omega (arith, length-three (kindNumber (e .kind)) (e .total) (e .usable), length-entries es)
 
+abbrev headBytes : Nvram → List ℕ
+headBytes s = four (s .n) (s .active) (s .tally .clock) (s .tally .barrel)
+
 pub length-state : (s : Nvram) → length (s .banks) ≡ 16 → length (stateBytes s) ≡ stateSize
 unfolding stateBytes
 length-state s h =
-    length-append (three (s .n) (s .active) (s .tally)) (entriesBytes (s .banks))
-    ∙ omega (arith, length-three (s .n) (s .active) (s .tally), length-entries (s .banks))
+    length-append (headBytes s) (entriesBytes (s .banks)) ∙ omega (arith, length-four (s .n) (s .active) (s .tally .clock) (s .tally .barrel), length-entries (s .banks))
 
 pub length-read : (n : ℕ) (bs : List ℕ) → length (entriesAt n bs) ≡ n
 unfolding entriesAt
@@ -61,6 +68,18 @@ record Three (a b c : ℕ) (q : List ℕ) : Type 0 where
 three-back : (a b c : ℕ) (q : List ℕ) → a < 4294967296 → b < 4294967296 → c < 4294967296 → Three a b c q
 unfolding u32At le32
 three-back a b c q x y z = record { first = u32-sum a x; second = u32-sum b y; third = u32-sum c z; rest = refl }
+
+record Four (a b c d : ℕ) (q : List ℕ) : Type 0 where
+  first : u32At (four a b c d ++ q) 0 ≡ a
+  second : u32At (four a b c d ++ q) 4 ≡ b
+  third : u32At (four a b c d ++ q) 8 ≡ c
+  fourth : u32At (four a b c d ++ q) 12 ≡ d
+  rest : drop stateHead (four a b c d ++ q) ≡ q
+
+four-back : (a b c d : ℕ) (q : List ℕ) → a < 4294967296 → b < 4294967296 → c < 4294967296 → d < 4294967296 → Four a b c d q
+unfolding u32At le32
+four-back a b c d q x y z v =
+    let t = three-back b c d q y z v in record { first = u32-sum a x; second = t .first; third = t .second; fourth = t .third; rest = t .rest }
 
 kind-small : (k : Kind) → kindNumber k ≤ 2
 kind-small Empty = omega arith
@@ -105,18 +124,18 @@ pub state-back : (s : Nvram) (rest : List ℕ) → FineState s → readState (st
 unfolding stateAt stateBytes
 state-back s rest f =
     let es = s .banks in
-    let head = three (s .n) (s .active) (s .tally) in
+    let head = headBytes s in
     let q = entriesBytes es ++ rest in
-    let t = three-back (s .n) (s .active) (s .tally) q (f .n-fits) (f .active-fits) (f .tally-fits) in
+    let t = four-back (s .n) (s .active) (s .tally .clock) (s .tally .barrel) q (f .n-fits) (f .active-fits) (f .tally-fits Clock) (f .tally-fits Barrel) in
     let room : stateSize ≤ length (head ++ q) =
     omega
-    (arith, length-append head q, length-append (entriesBytes es) rest, length-three (s .n) (s .active) (s .tally), length-entries es, f .banks-long) in
+    (arith, length-append head q, length-append (entriesBytes es) rest, length-four (s .n) (s .active) (s .tally .clock) (s .tally .barrel), length-entries es, f .banks-long) in
     let known : kindsKnown 16 (drop stateHead (head ++ q)) ≡ true =
     ap₂ kindsKnown (sym (f .banks-long)) (t .rest) ∙ known-back es rest (f .banks-fine) in
     let banks : entriesAt 16 (drop stateHead (head ++ q)) ≡ es =
     ap₂ entriesAt (sym (f .banks-long)) (t .rest) ∙ entries-back es rest (f .banks-fine) in
     ap readState (append-assoc head (entriesBytes es) rest) ∙ read-known (head ++ q) room known
-    ∙ (λ i. some (record { n = t .first i; active = t .second i; tally = t .third i; banks = banks i }))
+    ∙ (λ i. some (record { n = t .first i; active = t .second i; tally = record { clock = t .third i; barrel = t .fourth i }; banks = banks i }))
 
 -- what one call stores, the next reads
 pub stored-back : (s : Nvram) (bs : List ℕ) → FineState s → readState (stored s bs) ≡ some s
@@ -146,6 +165,16 @@ three-split bs k h =
     (u32-split bs 0 k (omega arith)
     ∙ ap (λ (r : List ℕ). le32 (u32At bs 0) ++ r)
     (u32-split bs 4 k (omega arith) ∙ ap (λ (r : List ℕ). le32 (u32At bs 4) ++ r) (u32-split bs 8 k (omega arith))))
+
+four-split : (bs : List ℕ) → Bytes bs → stateHead ≤ length bs → four (u32At bs 0) (u32At bs 4) (u32At bs 8) (u32At bs 12) ++ drop stateHead bs ≡ bs
+unfolding le32
+four-split bs k h =
+    sym
+    (u32-split bs 0 k (omega arith)
+    ∙ ap (λ (r : List ℕ). le32 (u32At bs 0) ++ r)
+    (u32-split bs 4 k (omega arith)
+    ∙ ap (λ (r : List ℕ). le32 (u32At bs 4) ++ r)
+    (u32-split bs 8 k (omega arith) ∙ ap (λ (r : List ℕ). le32 (u32At bs 8) ++ r) (u32-split bs 12 k (omega arith)))))
 
 kind-known : (k : ℕ) → k ≤ 2 → kindNumber (kindOf k) ≡ k
 kind-known zero h = refl
@@ -179,12 +208,12 @@ pub bytes-back : (bs : List ℕ) (s : Nvram) → Bytes bs → readState bs ≡ s
 unfolding stored stateBytes stateAt
 bytes-back bs s k e =
     let r = read-is bs s e in
-    let head = three (u32At bs 0) (u32At bs 4) (u32At bs 8) in
+    let head = four (u32At bs 0) (u32At bs 4) (u32At bs 8) (u32At bs 12) in
     let es = entriesBytes (entriesAt 16 (drop stateHead bs)) in
     ap (λ (x : Nvram). stored x bs) (r .is) ∙ append-assoc head es (drop stateSize bs)
     ∙ ap (λ (q : List ℕ). head ++ (es ++ q)) (sym (drop-drop (16 * entrySize) stateHead bs))
     ∙ ap (λ (q : List ℕ). head ++ q) (entries-split 16 (drop stateHead bs) (below-drop stateHead bs k) (omega (arith, r .room, length-drop stateHead bs)) (r .known))
-    ∙ three-split bs k (omega (arith, r .room))
+    ∙ four-split bs k (omega (arith, r .room))
 
 read-entries-fine : (n : ℕ) (bs : List ℕ) → Bytes bs → FineEntries (entriesAt n bs)
 unfolding entriesAt entryAt
@@ -198,8 +227,8 @@ read-state-fine bs s k e =
     record {
       n-fits = u32-lt bs 0 k;
       active-fits = u32-lt bs 4 k;
-      tally-fits = u32-lt bs 8 k;
+      tally-fits = λ caller. elim caller [ Clock ↦ u32-lt bs 8 k | Barrel ↦ u32-lt bs 12 k ];
       banks-long = length-read 16 (drop stateHead bs);
-      banks-fine = read-entries-fine 16 (drop stateHead bs) (below-drop entrySize bs k);
+      banks-fine = read-entries-fine 16 (drop stateHead bs) (below-drop stateHead bs k);
     } in
     subst FineState (sym (read-is bs s e .is)) fine

@@ -1,4 +1,5 @@
--- The state as bytes: n, active, tally, then 16 entries of kind (0 Empty, 1 Invalid, 2 Valid), total and usable; each number four bytes, least first.
+-- The state as bytes: n, active, the clock's tally, the barrel's, then 16 entries of kind (0 Empty, 1 Invalid, 2 Valid), total and usable; each number
+-- four bytes, least first.
 use Prim.Native.Nat.{ℕ, zero, suc, _+_, _*_, _<_}
 use mathlib.Core.Path.{_≡_}
 use mathlib.Core.List.{List, [], _∷_, _++_}
@@ -6,6 +7,9 @@ use mathlib.Core.Bool.{Bool, true, false, _&&_, cond}
 use mathlib.Core.Option.{Option, none, some}
 use lib.ListN.{length, drop}
 use lib.Dec.{eqb, leb}
+use Rattle.tally.specs.declared.Caller.{Caller}
+use Rattle.tally.specs.declared.Tally.{Tally}
+use Rattle.tally.specs.Tally.{tallyOf}
 use Rattle.bank.specs.Number.{u32At, le32}
 use Rattle.nvram.specs.declared.state.Kind.{Kind}
 use Rattle.nvram.specs.declared.state.Kind.the-variants.{Empty, Invalid, Valid}
@@ -18,7 +22,7 @@ use Rattle.state_bytes.specs.declared.Loaded.{Loaded}
 -- bytes in front of the entries, of an entry, and of a state
 
 abbrev pub stateHead : ℕ
-stateHead = 12
+stateHead = 16
 
 abbrev pub entrySize : ℕ
 entrySize = 12
@@ -36,6 +40,9 @@ kindNumber Valid = 2
 abbrev pub three : ℕ → ℕ → ℕ → List ℕ
 three a b c = le32 a ++ (le32 b ++ le32 c)
 
+abbrev pub four : ℕ → ℕ → ℕ → ℕ → List ℕ
+four a b c d = le32 a ++ three b c d
+
 abbrev pub entryBytes : Entry → List ℕ
 entryBytes e = three (kindNumber (e .kind)) (e .total) (e .usable)
 
@@ -44,7 +51,7 @@ entriesBytes [] = []
 entriesBytes (e ∷ es) = entryBytes e ++ entriesBytes es
 
 unfoldable pub stateBytes : Nvram → List ℕ
-stateBytes s = three (s .n) (s .active) (s .tally) ++ entriesBytes (s .banks)
+stateBytes s = four (s .n) (s .active) (s .tally .clock) (s .tally .barrel) ++ entriesBytes (s .banks)
 
 -- bytes past the state are left
 unfoldable pub stored : Nvram → List ℕ → List ℕ
@@ -62,8 +69,11 @@ unfoldable pub entriesAt : ℕ → List ℕ → List Entry
 entriesAt zero bs = []
 entriesAt (suc n) bs = entryAt bs ∷ entriesAt n (drop entrySize bs)
 
+abbrev pub tallyAt : List ℕ → Tally
+tallyAt bs = record { clock = u32At bs 8; barrel = u32At bs 12 }
+
 unfoldable pub stateAt : List ℕ → Nvram
-stateAt bs = record { n = u32At bs 0; active = u32At bs 4; tally = u32At bs 8; banks = entriesAt 16 (drop stateHead bs) }
+stateAt bs = record { n = u32At bs 0; active = u32At bs 4; tally = tallyAt bs; banks = entriesAt 16 (drop stateHead bs) }
 
 -- n entries whose kind number is none above 2
 unfoldable pub kindsKnown : ℕ → List ℕ → Bool
@@ -91,6 +101,6 @@ FineEntries (e ∷ es) = FineEntry e × FineEntries es
 pub record FineState (s : Nvram) : Type 0 where
   pub n-fits : s .n < 4294967296
   pub active-fits : s .active < 4294967296
-  pub tally-fits : s .tally < 4294967296
+  pub tally-fits : (caller : Caller) → tallyOf caller (s .tally) < 4294967296
   pub banks-long : length (s .banks) ≡ 16
   pub banks-fine : FineEntries (s .banks)

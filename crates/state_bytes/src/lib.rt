@@ -2,16 +2,17 @@
 use nvram::Entry;
 use nvram::Kind;
 use nvram::Nvram;
+use tally::Tally;
 ghost use mathlib.Core.Path.{_≡_};
 ghost use mathlib.Core.Option.{none};
 ghost use Prim.Native.Nat.{_+_, _≤_};
 ghost use lib.ListN.{length};
 ghost use Rattle.buffers.specs.Bytes.{over};
-ghost use Rattle.bank.specs.Number.{u32At, le32};
-ghost use Rattle.state_bytes.specs.State.{entrySize, stateSize, kindNumber, three, stored, kindOf, entryAt, readState, loaded};
+ghost use Rattle.bank.specs.Number.{u32At};
+ghost use Rattle.state_bytes.specs.State.{entrySize, stateSize, kindNumber, three as threeOf, four as fourOf, stored, kindOf, entryAt, readState, loaded};
 
-// n, active and tally.
-const HEAD: usize = 12;
+// n, active, and the two tallies.
+const HEAD: usize = 16;
 
 // Kind, total and usable.
 const ENTRY: usize = 12;
@@ -49,13 +50,7 @@ fn kind_number(kind: Kind) -> u32
 fn no_load() -> Loaded
     ensures { λ r. ⌜ r ≡ loaded none ⌝ }
 {
-    let banks = nvram::no_banks();
-    let state = Nvram {
-        n: 0,
-        active: 0,
-        tally: 0,
-        banks,
-    };
+    let state = nvram::no_state();
     Loaded { ok: false, state }
 }
 
@@ -97,44 +92,88 @@ pub fn load(bytes: &[u8]) -> Loaded
         banks[i] = entry_at(rest);
         i += 1;
     }
+    let tally = Tally {
+        clock: u32_at(bytes, 8),
+        barrel: u32_at(bytes, 12),
+    };
     let state = Nvram {
         n: u32_at(bytes, 0),
         active: u32_at(bytes, 4),
-        tally: u32_at(bytes, 8),
+        tally,
         banks,
     };
     Loaded { ok: true, state }
 }
 
-fn put(bytes: &mut [u8], at: usize, number: u32)
-    requires { ⌜ at + 4 ≤ length (now bytes) ⌝ }
-    ensures { λ _. ⌜ now (bytes .exit) ≡ over at (le32 number) (now (bytes .entry)) ⌝ }
+// Joined, so that the head and each entry are stored by one copy.
+fn three(a: u32, b: u32, c: u32) -> [u8; 12]
+    ensures { λ r. ⌜ r ≡ threeOf a b c ⌝ }
 {
-    let four = bank::le32(number);
-    buffers::copy(&four, &mut bytes[at..]);
+    let x = bank::le32(a);
+    let y = bank::le32(b);
+    let z = bank::le32(c);
+    [
+        x[0],
+        x[1],
+        x[2],
+        x[3],
+        y[0],
+        y[1],
+        y[2],
+        y[3],
+        z[0],
+        z[1],
+        z[2],
+        z[3],
+    ]
 }
 
-fn put_three(bytes: &mut [u8], at: usize, a: u32, b: u32, c: u32)
-    requires { ⌜ at + 12 ≤ length (now bytes) ⌝ }
-    ensures { λ _. ⌜ now (bytes .exit) ≡ over at (three a b c) (now (bytes .entry)) ⌝ }
+fn four(a: u32, b: u32, c: u32, d: u32) -> [u8; 16]
+    ensures { λ r. ⌜ r ≡ fourOf a b c d ⌝ }
 {
-    put(bytes, at, a);
-    put(bytes, at + 4, b);
-    put(bytes, at + 8, c);
+    let x = bank::le32(a);
+    let y = three(b, c, d);
+    [
+        x[0],
+        x[1],
+        x[2],
+        x[3],
+        y[0],
+        y[1],
+        y[2],
+        y[3],
+        y[4],
+        y[5],
+        y[6],
+        y[7],
+        y[8],
+        y[9],
+        y[10],
+        y[11],
+    ]
+}
+
+fn put(bytes: &mut [u8], at: usize, numbers: &[u8])
+    requires { ⌜ at + length (now numbers) ≤ length (now bytes) ⌝ }
+    ensures { λ _. ⌜ now (bytes .exit) ≡ over at (now (numbers .entry)) (now (bytes .entry)) ⌝ }
+{
+    buffers::copy(numbers, &mut bytes[at..]);
 }
 
 pub fn store(state: Nvram, bytes: &mut [u8])
     requires { ⌜ stateSize ≤ length (now bytes) ⌝ }
     ensures { λ _. ⌜ now (bytes .exit) ≡ stored state (now (bytes .entry)) ⌝ }
 {
-    put_three(bytes, 0, state.n, state.active, state.tally);
+    let head = four(state.n, state.active, state.tally.clock, state.tally.barrel);
+    put(bytes, 0, &head);
     let banks = state.banks;
     let mut i: usize = 0;
     while i < 16 {
         let entry = banks[i];
         let kind = entry.kind;
         let at = HEAD + ENTRY * i;
-        put_three(bytes, at, kind_number(kind), entry.total, entry.usable);
+        let numbers = three(kind_number(kind), entry.total, entry.usable);
+        put(bytes, at, &numbers);
         i += 1;
     }
 }

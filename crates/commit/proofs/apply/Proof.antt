@@ -29,7 +29,7 @@ same-length c = search needs
 
 returns : tie.Need-returns
 returns c = let a = c .before .before .before .before .before .before .before .args in
-    quiet (a .output .now) (c .refused .result) none 6 (c .refused .ensures) (does-6 (commit _ _) (a .t1) (a .work .now) (sym (soundness-sound _ _ _ (c .before .before .before .check .ensures)) ∙ not-true _ (c .before .if1 .taken)))
+    quiet (a .output .now) (c .refused .result) none 6 (c .refused .ensures) (does-6 (commit _ _ _) (a .t1) (a .work .now) (sym (soundness-sound _ _ _ (c .before .before .before .check .ensures)) ∙ not-true _ (c .before .if1 .taken)))
 
 refused-requires-2 : tie.Need-refused-requires-2
 refused-requires-2 c κs = search needs
@@ -38,7 +38,7 @@ same-length-2 : tie.Need-same-length-2
 same-length-2 c = search needs
 
 returns-2 : tie.Need-returns-2
-returns-2 c = let a = c .before .before .before .before .before .before .before .before .args in quiet (a .output .now) (c .refused2 .result) none 5 (c .refused2 .ensures) (does-5 (at-hand (c .before .before)) _ _ (c .before .if2 .taken))
+returns-2 c = let a = c .before .before .before .before .before .before .before .before .args in quiet (a .output .now) (c .refused2 .result) none 5 (c .refused2 .ensures) (does-5 (at-hand (c .before .before)) _ _ _ (c .before .if2 .taken))
 
 cast-i : tie.Need-cast-i
 cast-i c = search needs
@@ -72,13 +72,13 @@ same-length-3 : tie.Need-same-length-3
 same-length-3 c = search needs
 
 returns-3 : tie.Need-returns-3
-returns-3 c = let a = c .before .before .before .before .before .before .before .before .before .before .before .before .before .before .args in quiet (a .output .now) (c .refused3 .result) none 7 (c .refused3 .ensures) (does-7 (at-hand (c .before .before .before .before .before .before .before .before)) _ _ (c .before .before .before .before .before .before .before .if2 .left) (empty-valid _ (c .before .enum-told .given .1)))
+returns-3 c = let a = c .before .before .before .before .before .before .before .before .before .before .before .before .before .before .args in quiet (a .output .now) (c .refused3 .result) none 7 (c .refused3 .ensures) (does-7 (at-hand (c .before .before .before .before .before .before .before .before)) _ _ _ (c .before .before .before .before .before .before .before .if2 .left) (empty-valid _ (c .before .enum-told .given .1)))
 
 same-length-4 : tie.Need-same-length-4
 same-length-4 c = search needs
 
 returns-4 : tie.Need-returns-4
-returns-4 c = let a = c .before .before .before .before .before .before .before .before .before .before .before .before .before .before .args in quiet (a .output .now) (c .refused4 .result) none 7 (c .refused4 .ensures) (does-7 (at-hand (c .before .before .before .before .before .before .before .before)) _ _ (c .before .before .before .before .before .before .before .if2 .left) (invalid-valid _ (c .before .enum-told2 .given .1)))
+returns-4 c = let a = c .before .before .before .before .before .before .before .before .before .before .before .before .before .before .args in quiet (a .output .now) (c .refused4 .result) none 7 (c .refused4 .ensures) (does-7 (at-hand (c .before .before .before .before .before .before .before .before)) _ _ _ (c .before .before .before .before .before .before .before .if2 .left) (invalid-valid _ (c .before .enum-told2 .given .1)))
 
 same-length-5 : tie.Need-same-length-5
 same-length-5 c = search needs

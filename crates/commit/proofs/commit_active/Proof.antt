@@ -66,7 +66,7 @@ move-on-requires c κs = let k = at-hand (c .before .before .before .before .bef
 
 returns : tie.Need-returns
 returns c = let k = at-hand (c .before .before .before .before .before .before .before .before) in let a = c .before .before .before .before .before .before .before .before .before .before .args in
-    quiet (a .output .now) (c .refused .result) none _ (c .refused .ensures) (refuses k _ _ (c .before .before .before .before .before .before .before .before .before .before .pre .2) _ (sym (ap verdict (c .before .before .number .given .1)) ∙ decided (c .before .before .before .before)))
+    quiet (a .output .now) (c .refused .result) none _ (c .refused .ensures) (refuses k _ _ _ (c .before .before .before .before .before .before .before .before .before .before .pre .2) _ (sym (ap verdict (c .before .before .number .given .1)) ∙ decided (c .before .before .before .before)))
 
 same-length : tie.Need-same-length
 same-length c = search needs
@@ -76,7 +76,7 @@ same-length-2 c = search needs
 
 returns-2 : tie.Need-returns-2
 returns-2 c = let k = at-hand (c .before .before .before .before .before .before .before .before .before .before .before .before) in let a = c .before .before .before .before .before .before .before .before .before .before .before .before .before .before .args in
-    wrote (a .output .now) (c .before .before .write .result) none _ (a .header .size) (size-high k) (part-within (sound k)) (c .before .before .write .ensures) (stays k _ _ (c .before .before .before .before .before .before .before .before .before .before .before .before .before .before .pre .2) (sym (ap verdict (c .before .before .before .before .before .before .enum-told .given .1)) ∙ decided (c .before .before .before .before .before .before .before .before)))
+    wrote (a .output .now) (c .before .before .write .result) none _ (a .header .size) (size-high k) (part-within (sound k)) (c .before .before .write .ensures) (stays k _ _ _ (c .before .before .before .before .before .before .before .before .before .before .before .before .before .before .pre .2) (sym (ap verdict (c .before .before .before .before .before .before .enum-told .given .1)) ∙ decided (c .before .before .before .before .before .before .before .before)))
 
 same-length-3 : tie.Need-same-length-3
 same-length-3 c = search needs

@@ -25,7 +25,7 @@ at-hand c way due =
 abbrev some-way : (c : tie.After-slice-known2) → Moving (c .before .before .pre .1 .0) (c .before .before .args .t1) (c .before .before .args .work .now) (c .before .before .args .header) (c .before .before .args .from) (c .before .before .args .to)
 some-way c = at-hand c (c .before .before .pre .1 .0) (c .before .before .pre .1 .1)
 
-left : (c : tie.After-moved) (way : Way) (due : MoveDue way (c .before .before .before .before .before .before .before .before .before .before .args .t1) (c .before .before .before .before .before .before .before .before .before .before .args .work .now)) → MoveLeft (at-hand (c .before .before .before .before .before .before .before .before) way due) (c .before .before .before .move-bank .result) (c .before .before .before .move-bank .last .0) (eraseOf (c .before .before .before .before .before .before .request .result)) (c .moved .result)
+left : (c : tie.After-moved) (way : Way) (due : MoveDue way (c .before .before .before .before .before .before .before .before .before .before .args .t1) (c .before .before .before .before .before .before .before .before .before .before .args .work .now)) → MoveLeft (at-hand (c .before .before .before .before .before .before .before .before) way due) (c .before .before .before .before .before .before .before .before .before .before .args .caller) (c .before .before .before .move-bank .result) (c .before .before .before .move-bank .last .0) (eraseOf (c .before .before .before .before .before .before .request .result)) (c .moved .result)
 left c way due =
     record {
       header = c .before .before .before .before .raised .result;
@@ -35,7 +35,7 @@ left c way due =
       state = c .moved .ensures;
     }
 
-some-left : (c : tie.After-moved) → MoveLeft (some-way (c .before .before .before .before .before .before .before .before)) (c .before .before .before .move-bank .result) (c .before .before .before .move-bank .last .0) (eraseOf (c .before .before .before .before .before .before .request .result)) (c .moved .result)
+some-left : (c : tie.After-moved) → MoveLeft (some-way (c .before .before .before .before .before .before .before .before)) (c .before .before .before .before .before .before .before .before .before .before .args .caller) (c .before .before .before .move-bank .result) (c .before .before .before .move-bank .last .0) (eraseOf (c .before .before .before .before .before .before .request .result)) (c .moved .result)
 some-left c = left c _ (c .before .before .before .before .before .before .before .before .before .before .pre .1 .1)
 
 cast-next : tie.Need-cast-next

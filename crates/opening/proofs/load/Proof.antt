@@ -56,16 +56,19 @@ loop-again c = let a = c .before .before .before .before .before .before .before
     (omega arith) (omega arith) (omega arith) (r .kept .1 .0) (r .ensures .1)
     (c .before .entry-of .ensures k (r .ensures .0)) (λ rest. c .after .ensures k rest (r .ensures .0))
 
-cast-t16 : tie.Need-cast-t16 Inv-loop μ-loop
-cast-t16 c = search needs
+none-requires : tie.Need-none-requires Inv-loop μ-loop
+none-requires c κs = search needs
+
+cast-t17 : tie.Need-cast-t17 Inv-loop μ-loop
+cast-t17 c = search needs
 
 same-length : tie.Need-same-length Inv-loop μ-loop
 same-length c = search needs
 
 returns : tie.Need-returns Inv-loop μ-loop
-returns c = let a = c .before .before .before .before .before .args in
-    let l = c .before .loop in (
-      load-state (a .image .now) (a .work .now) (a .n) (l .i) (l .work) (l .banks) (l .best .generation) (l .best .active) (l .inv) (omega arith),
+returns c = let a = c .before .before .before .before .before .before .args in
+    let l = c .before .before .loop in (
+      load-state (a .image .now) (a .work .now) (a .n) (l .i) (l .work) (l .banks) (l .best .generation) (l .best .active) (l .inv) (omega arith) _ (c .none .ensures),
       load-work (a .image .now) (a .work .now) (a .n) (l .i) (l .work) (l .banks) (l .best .generation) (l .best .active) (l .inv) (omega arith),
     )
 
@@ -85,6 +88,7 @@ load-spec =
     add-i
     loop-less
     loop-again
-    cast-t16
+    none-requires
+    cast-t17
     same-length
     returns)

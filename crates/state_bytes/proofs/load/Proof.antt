@@ -79,9 +79,12 @@ u32-at-requires-3 c κs = search needs
 u32-at-requires-4 : tie.Need-u32-at-requires-4 Inv-loop μ-loop
 u32-at-requires-4 c κs = search needs
 
+u32-at-requires-5 : tie.Need-u32-at-requires-5 Inv-loop μ-loop
+u32-at-requires-5 c κs = search needs
+
 returns-3 : tie.Need-returns-3 Inv-loop μ-loop
-returns-3 c = let e : c .before .before .before .before .loop .i ≡ 16 = omega (arith, c .before .before .before .before .loop .inv .high, c .before .before .before .loop-test .left) in
-    ap loaded (sym (read-all (c .before .before .before .before .loop .inv) _ _ _ e (c .before .before .u32-at2 .ensures) (c .before .u32-at3 .ensures) (c .u32-at4 .ensures)))
+returns-3 c = let e : c .before .before .before .before .before .loop .i ≡ 16 = omega (arith, c .before .before .before .before .before .loop .inv .high, c .before .before .before .before .loop-test .left) in
+    ap loaded (sym (read-all (c .before .before .before .before .before .loop .inv) _ _ _ _ e (c .before .u32-at4 .ensures) (c .u32-at5 .ensures) (c .before .before .before .u32-at2 .ensures) (c .before .before .u32-at3 .ensures)))
 
 pub load-spec : {M : Type 1} → statement M
 load-spec =
@@ -110,4 +113,5 @@ load-spec =
     u32-at-requires-2
     u32-at-requires-3
     u32-at-requires-4
+    u32-at-requires-5
     returns-3)

@@ -22,11 +22,8 @@ decimal-requires-2 c κs = search needs
 cast-right-2 : tie.Need-cast-right-2 Inv-loop μ-loop
 cast-right-2 c = search needs
 
-decimal-requires-3 : tie.Need-decimal-requires-3 Inv-loop μ-loop
-decimal-requires-3 c κs = search needs
-
-cast-right-3 : tie.Need-cast-right-3 Inv-loop μ-loop
-cast-right-3 c = search needs
+tally-right-requires : tie.Need-tally-right-requires Inv-loop μ-loop
+tally-right-requires c κs = search needs
 
 loop-holds : tie.Need-loop-holds Inv-loop μ-loop
 loop-holds c = search needs
@@ -62,8 +59,7 @@ state-right-spec =
     cast-right
     decimal-requires-2
     cast-right-2
-    decimal-requires-3
-    cast-right-3
+    tally-right-requires
     loop-holds
     mul-entry
     array-copy-out-entry
