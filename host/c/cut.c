@@ -26,7 +26,7 @@ static int is_found(const char *key) {
 static uint64_t commit(size_t power) {
     uint64_t asked[4];
     uint8_t *bank;
-    check(feqyondil_careful_commit(STORE, output, sizeof output, asked) == FEQYONDIL_OK, "commit");
+    check(feqyondil_careful_commit(STORE, output, sizeof output, FEQYONDIL_CLOCK, asked) == FEQYONDIL_OK, "commit");
     check(asked[FEQYONDIL_ERASE] == 0, "no erase");
     bank = flash + asked[FEQYONDIL_WRITE_OFFSET];
     for (uint64_t i = asked[FEQYONDIL_WRITE_LENGTH]; i-- > 0 && power > 0;) {

@@ -1,11 +1,12 @@
 /*
  * The header and the library from C: a store is opened, edited and committed until its bank moves,
  * the flash is written as the commits ask, and what is opened again has the values. What the header
- * says of null pointers, of the state's numbers, of what records come to, of a store after a move and after
- * 12, of the barrels' insert, of the settings of two banks, of why reading a bank stopped, and of the log of
- * winding runs is tried too.
+ * says of null pointers, of the state's numbers, of the tallies of both callers, of what records come to, of a
+ * store after a move and after 12, of the barrels' insert, of the settings of two banks, of why reading a bank
+ * stopped, and of the log of winding runs is tried too.
  */
 #include "run_log.h"
+#include "tallies.h"
 
 #define FLASH (sizeof flash)
 #define SIZE 200u
@@ -32,7 +33,7 @@ static void insert(uint8_t value) {
 /* The erase and the write of a commit, as flash does them; whether there was an erase. */
 static int commit(void) {
     uint64_t at, count;
-    check(feqyondil_careful_commit(STORE, output, sizeof output, requests) == FEQYONDIL_OK, "commit");
+    check(feqyondil_careful_commit(STORE, output, sizeof output, FEQYONDIL_CLOCK, requests) == FEQYONDIL_OK, "commit");
     at = requests[FEQYONDIL_WRITE_OFFSET];
     count = requests[FEQYONDIL_WRITE_LENGTH];
     check(at + count <= FLASH && count == SIZE, "the write's place");
@@ -81,7 +82,7 @@ static unsigned turns(void) {
         insert(count);
         erases += (unsigned)commit();
         active = number_at(FEQYONDIL_STATE_ACTIVE);
-        check(number_at(FEQYONDIL_STATE_TALLY) == requests[FEQYONDIL_ERASE], "tally");
+        check(number_at(FEQYONDIL_STATE_CLOCK_TALLY) == requests[FEQYONDIL_ERASE], "the tally of a turn");
         find(count);
         sums();
         if (active != before)
@@ -99,12 +100,13 @@ static void insert_too_much(void) {
     check(feqyondil_insert(STORE, KEY, long_value, SIZE, FEQYONDIL_COMMON) == FEQYONDIL_OK, "a long insert");
 }
 
-/* After 12 of the older commit the state has moved, and the flash opens as before. */
+/* After 12 of the older commit the state has moved, and its caller's tally has counted; the flash opens as before. */
 static void over(void) {
     uint32_t active = number_at(FEQYONDIL_STATE_ACTIVE);
     insert_too_much();
-    check(feqyondil_commit(STORE, output, sizeof output, requests) == FEQYONDIL_MOVED_OVER, "12");
+    check(feqyondil_commit(STORE, output, sizeof output, FEQYONDIL_BARREL, requests) == FEQYONDIL_MOVED_OVER, "12");
     check(number_at(FEQYONDIL_STATE_ACTIVE) != active, "12 moves");
+    check(requests[FEQYONDIL_ERASE] == 1 && is_tally(0, 1, 1), "12 counts for its caller");
     reopen();
     check(number_at(FEQYONDIL_STATE_ACTIVE) == active, "the flash after 12");
     find(TURNS);
@@ -131,12 +133,13 @@ static void over_carefully(void) {
     keep();
     for (int again = 0; again < 2; again++) {
         memset(requests, 7, sizeof requests);
-        check(feqyondil_careful_commit(STORE, output, sizeof output, requests) == FEQYONDIL_MOVED_OVER, "careful 12");
+        check(feqyondil_careful_commit(STORE, output, sizeof output, FEQYONDIL_CLOCK, requests) == FEQYONDIL_MOVED_OVER,
+              "careful 12");
         check(memcmp(requests, nothing, sizeof requests) == 0, "careful 12 asks for something");
         check(is_kept(), "the store and the output after a careful 12");
     }
     check(feqyondil_remove(STORE, KEY, FEQYONDIL_COMMON) == FEQYONDIL_OK, "remove");
-    check(commit() == 1 && number_at(FEQYONDIL_STATE_TALLY) == 1, "the move after a careful 12");
+    check(commit() == 1 && is_tally(1, 0, 1), "the move after a careful 12");
     reopen();
     find(TURNS);
 }
@@ -246,18 +249,16 @@ static void nulls_of_edits(void) {
     check(feqyondil_remove(STORE, NONE, COMMON) == FEQYONDIL_OK, "null: remove, key");
 }
 
-typedef uint32_t commit_call(uint8_t *, size_t, uint8_t *, size_t, uint8_t *, size_t, uint64_t *);
-
-static void nulls_of_commit(commit_call *call) {
-    check(call(NONE, WORK, output, FLASH, requests) == FEQYONDIL_NOT_SOUND, "null: commit, state");
-    check(call(STATE, NONE, output, FLASH, requests) == FEQYONDIL_NOT_SOUND, "null: commit, work");
-    check(call(STORE, NONE, requests) == FEQYONDIL_OUTPUT_SHORT, "null: commit, output");
+static void nulls_of_commit(commit_call *call, uint32_t caller) {
+    check(call(NONE, WORK, output, FLASH, caller, requests) == FEQYONDIL_NOT_SOUND, "null: commit, state");
+    check(call(STATE, NONE, output, FLASH, caller, requests) == FEQYONDIL_NOT_SOUND, "null: commit, work");
+    check(call(STORE, NONE, caller, requests) == FEQYONDIL_OUTPUT_SHORT, "null: commit, output");
 }
 
 /* Of what reads and writes flash. */
 static void nulls_of_flash(void) {
-    nulls_of_commit(feqyondil_commit);
-    nulls_of_commit(feqyondil_careful_commit);
+    nulls_of_commit(feqyondil_commit, FEQYONDIL_CLOCK);
+    nulls_of_commit(feqyondil_careful_commit, FEQYONDIL_BARREL);
     check(feqyondil_whole_image(NONE, WORK, output, FLASH, length) == FEQYONDIL_NOT_SOUND, "null: image, state");
     check(feqyondil_whole_image(STATE, NONE, output, FLASH, length) == FEQYONDIL_NOT_SOUND, "null: image, work");
     check(feqyondil_whole_image(STORE, NONE, length) == FEQYONDIL_OUTPUT_SHORT, "null: image, output");
@@ -276,6 +277,7 @@ int main(void) {
     over();
     over_carefully();
     barrels();
+    tallies();
     run_logs();
     nulls_of_banks();
     nulls_of_edits();

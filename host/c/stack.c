@@ -20,7 +20,7 @@ static uint8_t run_log[FEQYONDIL_RUN_LOG_MAX];
 static uint32_t tables[FEQYONDIL_CRC32_TABLE_ENTRIES];
 static uint64_t numbers[8];
 static uint32_t answer;
-static ucontext_t caller, called;
+static ucontext_t origin, called;
 
 #define KEY value, 4
 
@@ -41,8 +41,11 @@ static void remove_key(void) { answer = feqyondil_remove(STORE, KEY, FEQYONDIL_S
 static void lookup(void) { answer = feqyondil_lookup(STORE, KEY, FEQYONDIL_SYSTEM, numbers); }
 static void fetch(void) { answer = (uint32_t)feqyondil_value(STORE, KEY, FEQYONDIL_SYSTEM, output, sizeof output); }
 static void figures(void) { answer = feqyondil_figures(STORE, numbers); }
-static void commit(void) { answer = feqyondil_commit(STORE, output, sizeof output, numbers); }
-static void careful_commit(void) { answer = feqyondil_careful_commit(STORE, output, sizeof output, numbers); }
+static void tally(void) { answer = feqyondil_tally(state, sizeof state, numbers); }
+static void commit(void) { answer = feqyondil_commit(STORE, output, sizeof output, FEQYONDIL_CLOCK, numbers); }
+static void careful_commit(void) {
+    answer = feqyondil_careful_commit(STORE, output, sizeof output, FEQYONDIL_BARREL, numbers);
+}
 static void whole_image(void) { answer = feqyondil_whole_image(STORE, output, sizeof output, numbers); }
 /* Of the bank that the commit before it wrote. */
 static void same_settings(void) {
@@ -75,6 +78,7 @@ static const struct {
     {"lookup", lookup},
     {"value", fetch},
     {"figures", figures},
+    {"tally", tally},
     {"whole_image", whole_image},
     {"commit", commit},
     {"careful_commit", careful_commit},
@@ -97,9 +101,9 @@ static size_t used_by(void (*call)(void)) {
     getcontext(&called);
     called.uc_stack.ss_sp = stack;
     called.uc_stack.ss_size = sizeof stack;
-    called.uc_link = &caller;
+    called.uc_link = &origin;
     makecontext(&called, call, 0);
-    swapcontext(&caller, &called);
+    swapcontext(&origin, &called);
     while (left < sizeof stack && stack[left] == FILLED)
         left++;
     return sizeof stack - left;
@@ -122,7 +126,7 @@ int main(void) {
     }
     /* To the Empty bank by one commit, and back by the other, which asks for an erase. */
     check(answer == FEQYONDIL_OK && feqyondil_state_number(state, FEQYONDIL_STATE_ACTIVE) == 0 &&
-              feqyondil_state_number(state, FEQYONDIL_STATE_TALLY) == 1,
+              feqyondil_state_number(state, FEQYONDIL_STATE_BARREL_TALLY) == 1,
           "the full bank has moved twice");
     printf("stack: at most %zu bytes, by feqyondil_%s\n", most, name);
     check(most <= MOST, "more than docs/USING.md says");

@@ -138,7 +138,7 @@ mod tests {
             work[at] ^= 1;
             assert!(refused(store.state(), &work));
         }
-        for at in [0, 4, 12, 16, 24, 28, 48, 203] {
+        for at in [0, 4, 16, 20, 28, 32, 52, 207] {
             let mut state = *store.state();
             state[at] ^= 0x10;
             assert!(refused(&state, store.work()));

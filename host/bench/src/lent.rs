@@ -1,7 +1,7 @@
 //! The port's calls, which answer 1 if they did it; edits are undone after each.
 
 use feqyondil::state::{ENTRY_SIZE, ENTRY_TOTAL, ENTRY_USABLE, STATE_ACTIVE, STATE_ENTRIES};
-use feqyondil::{PART_SIZE, STATE_SIZE};
+use feqyondil::{Caller, PART_SIZE, STATE_SIZE};
 use image::{number, put_number, Record, BANK, RECORD};
 
 /// Which commit of the port it is.
@@ -93,8 +93,8 @@ impl Lent {
             OLD => feqyondil::lent::commit,
             CAREFUL => feqyondil::lent::careful_commit,
         };
-        let (state, work) = (&mut self.state, &mut self.work);
-        u32::from(commit(state, work, &mut self.output, &mut [0; 4]) == 0)
+        let (state, work, caller) = (&mut self.state, &mut self.work, Caller::Clock.number());
+        u32::from(commit(state, work, &mut self.output, caller, &mut [0; 4]) == 0)
     }
 
     /// With one byte less usable than there are records, which makes the bank move.

@@ -15,6 +15,7 @@ mod plan;
 mod run;
 mod state;
 mod style;
+mod tallies;
 mod value;
 
 pub use bank::{slot, Slot};
@@ -30,5 +31,5 @@ pub use log::{
 pub use pair::{pair, Other, Pair};
 pub use plan::{plan, Action, Plan, SPARE};
 pub use run::{run, Run};
-pub use state::{case, Case};
+pub use state::{case, moving_case, Case};
 pub use style::Style;

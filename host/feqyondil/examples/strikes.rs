@@ -1,4 +1,4 @@
-use feqyondil::{Commit, Refusal, Store, VarType, BANK_SIZE, PART_SIZE};
+use feqyondil::{Caller, Commit, Refusal, Store, VarType, BANK_SIZE, PART_SIZE};
 
 /// The erase, if there is one; then the bytes that differ, from the last to the first.
 fn carry_out(flash: &mut [u8], commit: Commit) {
@@ -23,7 +23,7 @@ fn main() -> Result<(), Refusal> {
         store.value(b"strikes", VarType::System, &mut count);
         count[0] += 1;
         store.insert(b"strikes", &count, VarType::System)?;
-        let commit = store.careful_commit(&mut output)?;
+        let commit = store.careful_commit(Caller::Clock, &mut output)?;
         carry_out(&mut flash, commit);
         println!("boot {boot}: {} strikes", count[0]);
     }

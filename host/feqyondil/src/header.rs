@@ -11,6 +11,7 @@ use crate::figures;
 use crate::partition::slot;
 use crate::state::*;
 use crate::store::place;
+use crate::tally;
 use crate::*;
 
 const HEADER: &str = include_str!("../../../include/feqyondil.h");
@@ -77,6 +78,8 @@ fn sizes(defined: &mut Defined) {
     assert_eq!(VERSION, defined.take("VERSION"));
     assert_eq!(VarType::Common.number(), defined.take("COMMON"));
     assert_eq!(VarType::System.number(), defined.take("SYSTEM"));
+    assert_eq!(Caller::Clock.number(), defined.take("CLOCK"));
+    assert_eq!(Caller::Barrel.number(), defined.take("BARREL"));
     for (name, own) in [
         ("BANK_SIZE", BANK_SIZE),
         ("BANKS_MAX", BANKS_MAX),
@@ -92,7 +95,8 @@ fn sizes(defined: &mut Defined) {
         ("CRC32_TABLE_ENTRIES", CRC32_TABLE_ENTRIES),
         ("STATE_BANKS", STATE_BANKS),
         ("STATE_ACTIVE", STATE_ACTIVE),
-        ("STATE_TALLY", STATE_TALLY),
+        ("STATE_CLOCK_TALLY", STATE_CLOCK_TALLY),
+        ("STATE_BARREL_TALLY", STATE_BARREL_TALLY),
         ("STATE_ENTRIES", STATE_ENTRIES),
         ("ENTRY_SIZE", ENTRY_SIZE),
         ("ENTRY_KIND", ENTRY_KIND),
@@ -168,6 +172,11 @@ fn answers(defined: &mut Defined) {
     found[defined.take_place("FOUND_PLACE")] = 65;
     found[defined.take_place("FOUND_LENGTH")] = 9;
     assert_eq!(place(found), Some(65..74));
+    let mut tallied = [0; 3];
+    tallied[defined.take_place("TALLY_CLOCK")] = 2;
+    tallied[defined.take_place("TALLY_BARREL")] = 3;
+    tallied[defined.take_place("TALLY_TOTAL")] = 5;
+    assert_eq!(tally::told(0, tallied), Tally { clock: 2, barrel: 3, total: 5 });
     let mut summed = [0; 3];
     summed[defined.take_place("FIGURES_SYSTEM")] = 42;
     summed[defined.take_place("FIGURES_COMMON")] = 38;

@@ -12,6 +12,7 @@ extern "C" {
         work: *mut u8,
         work_len: usize,
     ) -> u32;
+    fn feqyondil_tally(state: *const u8, state_len: usize, tally: *mut [u64; 3]) -> u32;
     fn feqyondil_insert(
         state: *mut u8,
         state_len: usize,
@@ -78,6 +79,7 @@ extern "C" {
         work_len: usize,
         output: *mut u8,
         output_len: usize,
+        caller: u32,
         requests: *mut [u64; 4],
     ) -> u32;
     fn feqyondil_careful_commit(
@@ -87,6 +89,7 @@ extern "C" {
         work_len: usize,
         output: *mut u8,
         output_len: usize,
+        caller: u32,
         requests: *mut [u64; 4],
     ) -> u32;
     fn feqyondil_whole_image(
@@ -111,6 +114,14 @@ pub fn open(image: &[u8], state: &mut [u8], work: &mut [u8]) -> u32 {
     let (work, work_len) = (work.as_mut_ptr(), work.len());
     // SAFETY: as above.
     unsafe { feqyondil_open(image, image_len, state, state_len, work, work_len) }
+}
+
+/// Tells the tallies: 0, or 6 where `state` holds no state; `tally` becomes the erase requests in the
+/// clock's commits, those in the barrel's, and their sum, each up to 4,294,967,295.
+pub fn tally(state: &[u8], tally: &mut [u64; 3]) -> u32 {
+    let (state, state_len) = (state.as_ptr(), state.len());
+    // SAFETY: as above.
+    unsafe { feqyondil_tally(state, state_len, tally) }
 }
 
 /// Inserts a record of type `typ`, 0 for Common: 0, 6, 7 or 8.
@@ -188,15 +199,17 @@ pub fn figures(state: &[u8], work: &[u8], figures: &mut [u64; 3]) -> u32 {
     unsafe { feqyondil_figures(state, state_len, work, work_len, figures) }
 }
 
-/// Commits: 0, 5, 6, 7, or 9 to 12. `requests` becomes whether a bank is to be erased (1 or 0) and
-/// its offset, then the offset and the length of the write, whose bytes `output` begins with.
+/// Commits for `caller`, 0 for the clock: 0, 5, 6, 7, or 9 to 12. `requests` becomes whether a bank is
+/// to be erased (1 or 0) and its offset, then the offset and the length of the write, whose bytes
+/// `output` begins with.
 pub fn commit(
     state: &mut [u8],
     work: &mut [u8],
     output: &mut [u8],
+    caller: u32,
     requests: &mut [u64; 4],
 ) -> u32 {
-    commit_by(feqyondil_commit, state, work, output, requests)
+    commit_by(feqyondil_commit, state, work, output, caller, requests)
 }
 
 /// The same, but 12 comes before the move: after any refusal `requests` is all 0, and nothing else
@@ -205,26 +218,28 @@ pub fn careful_commit(
     state: &mut [u8],
     work: &mut [u8],
     output: &mut [u8],
+    caller: u32,
     requests: &mut [u64; 4],
 ) -> u32 {
-    commit_by(feqyondil_careful_commit, state, work, output, requests)
+    commit_by(feqyondil_careful_commit, state, work, output, caller, requests)
 }
 
 type CommitCall =
-    unsafe extern "C" fn(*mut u8, usize, *mut u8, usize, *mut u8, usize, *mut [u64; 4]) -> u32;
+    unsafe extern "C" fn(*mut u8, usize, *mut u8, usize, *mut u8, usize, u32, *mut [u64; 4]) -> u32;
 
 fn commit_by(
     call: CommitCall,
     state: &mut [u8],
     work: &mut [u8],
     output: &mut [u8],
+    caller: u32,
     requests: &mut [u64; 4],
 ) -> u32 {
     let (state, state_len) = (state.as_mut_ptr(), state.len());
     let (work, work_len) = (work.as_mut_ptr(), work.len());
     let (output, output_len) = (output.as_mut_ptr(), output.len());
     // SAFETY: as above; the call is one of the two commits.
-    unsafe { call(state, state_len, work, work_len, output, output_len, requests) }
+    unsafe { call(state, state_len, work, work_len, output, output_len, caller, requests) }
 }
 
 /// Joins the Valid banks in `output`: 0, 5, 6 or 13; `length` becomes how many bytes they are.

@@ -1,11 +1,12 @@
 //! Feqyondil: a proved flash store of v3 banks, without std and without an allocator.
 //!
-//! [`Store`] opens an image of the flash, looks values up, edits them, and says what a commit asks
-//! of the flash; the caller erases and writes. Every buffer is the caller's: [`PART_SIZE`] bytes of
-//! work area for each bank, [`BANK_SIZE`] bytes of output for a commit. [`lent`] has the same calls
-//! on any bytes, with numbers, as C has them. [`same_settings`] compares two banks; [`bank_cause`]
-//! says why reading a bank stopped. [`run_log_read`] and [`run_log_write`] are for a value that is a
-//! log of winding runs. Calls on different buffers may run at once.
+//! [`Store`] opens an image of the flash, looks values up, edits them, says what a commit asks of the
+//! flash, which the program then erases and writes, and tallies the erases by [`Caller`]. Every buffer
+//! is lent: [`PART_SIZE`] bytes of work area for each bank, [`BANK_SIZE`] bytes of output for a
+//! commit. [`lent`] has the same calls on any bytes, with numbers, as C has them. [`same_settings`]
+//! compares two banks; [`bank_cause`] says why reading a bank stopped. [`run_log_read`] and
+//! [`run_log_write`] are for a value that is a log of winding runs. Calls on different buffers may run
+//! at once.
 //!
 //! It links libfeqyondil.a, for x86-64, from the folder that the environment variable FEQYONDIL_LIB
 //! names, else from dist/ of the repository, where `make lib` puts it.
@@ -34,6 +35,7 @@ mod samples;
 mod settings;
 pub mod state;
 mod store;
+mod tally;
 
 pub use cause::{bank_cause, Cause, Spot};
 pub use checksum::{crc32, Tables};
@@ -45,9 +47,10 @@ pub use run_log::{run_log_read, run_log_write, RUN_NUMBERS, RUN_SECONDS, RUN_STA
 pub use settings::same_settings;
 pub use state::{Entry, Kind};
 pub use store::{Store, VarType};
+pub use tally::{Caller, Tally};
 
 /// Raised with each change of a prototype or of the state's layout: docs/CHANGES.md.
-pub const VERSION: u32 = 1;
+pub const VERSION: u32 = 2;
 /// Bytes of one bank of an image.
 pub const BANK_SIZE: usize = 65_536;
 /// Most banks of an image.
@@ -55,7 +58,7 @@ pub const BANKS_MAX: usize = 16;
 /// Bytes of work area for each bank.
 pub const PART_SIZE: usize = 131_072;
 /// Bytes of the state.
-pub const STATE_SIZE: usize = 204;
+pub const STATE_SIZE: usize = 208;
 /// Most bytes of a value of the barrels' insert.
 pub const BARREL_VALUE_MAX: usize = 512;
 /// Most bytes of a log of winding runs.

@@ -5,10 +5,12 @@
 pub const STATE_BANKS: usize = 0;
 /// The active one, counted from 0.
 pub const STATE_ACTIVE: usize = 4;
-/// Erase requests since the opening, up to 4,294,967,295.
-pub const STATE_TALLY: usize = 8;
+/// Erase requests in the clock's commits, up to 4,294,967,295.
+pub const STATE_CLOCK_TALLY: usize = 8;
+/// Those in the barrel's.
+pub const STATE_BARREL_TALLY: usize = 12;
 /// Bank i's entry is `ENTRY_SIZE * i` bytes behind.
-pub const STATE_ENTRIES: usize = 12;
+pub const STATE_ENTRIES: usize = 16;
 /// Bytes of an entry.
 pub const ENTRY_SIZE: usize = 12;
 /// In an entry, its kind.
@@ -41,7 +43,7 @@ pub struct Entry {
     pub usable: usize,
 }
 
-/// The number of a state at one of these offsets, as in `number(state, STATE_TALLY)`. Panics where
+/// The number of a state at one of these offsets, as in `number(state, STATE_ACTIVE)`. Panics where
 /// the state ends before it.
 pub fn number(state: &[u8], offset: usize) -> u32 {
     let four = state[offset..offset + 4].try_into().expect("four bytes");

@@ -6,7 +6,8 @@ use crate::commit::{self, Commit, NotCommitted};
 use crate::figures::{self, Figures};
 use crate::lent;
 use crate::refusal::Refusal;
-use crate::state::{self, Entry, STATE_ACTIVE, STATE_BANKS, STATE_TALLY};
+use crate::state::{self, Entry, STATE_ACTIVE, STATE_BANKS};
+use crate::tally::{self, Caller, Tally};
 use crate::STATE_SIZE;
 
 /// The type of a variable. One key may have a value of each.
@@ -126,9 +127,11 @@ impl<'a> Store<'a> {
     /// the front of `output`, which has at least [`BANK_SIZE`](crate::BANK_SIZE). Where the bank is
     /// full it moves to the next one, its live values only, and that one becomes active.
     ///
-    /// The caller erases first, then writes: to the flash that was opened, and nothing else. Where
-    /// its erase or its write fails, the caller opens the flash again: the store takes both as
-    /// done.
+    /// Erase first, then write: to the flash that was opened, and nothing else. Where the erase or
+    /// the write fails, open the flash again: the store takes both as done.
+    ///
+    /// An erase request counts in the [`tally`](Store::tally) of `caller`, who commits. Nothing else
+    /// depends on it.
     ///
     /// Refusals: OutputShort, NotValid, SystemLimit, CommonLimit, LastMove, MovedOver, in this
     /// order. MovedOver is where the bank has to move, and header and live records are over its
@@ -136,22 +139,32 @@ impl<'a> Store<'a> {
     ///
     /// POWER CUTS. Written from the first byte to the last, a commit that is cut off may lose what
     /// was stored: include/feqyondil.h at feqyondil_careful_commit, and docs/USING.md.
-    pub fn careful_commit<'o>(&mut self, output: &'o mut [u8]) -> Result<Commit<'o>, Refusal> {
-        let mut requests = [u64::MAX; 4];
-        let number = lent::careful_commit(&mut self.state, self.work, output, &mut requests);
+    pub fn careful_commit<'o>(
+        &mut self,
+        caller: Caller,
+        output: &'o mut [u8],
+    ) -> Result<Commit<'o>, Refusal> {
+        let (mut requests, caller) = ([u64::MAX; 4], caller.number());
+        let state = &mut self.state;
+        let number = lent::careful_commit(state, self.work, output, caller, &mut requests);
         commit::told_carefully(number, requests, output)
     }
 
     /// The older commit, for boards that call it already. What
-    /// [`careful_commit`](Store::careful_commit) accepts it accepts too, with the same bytes and the
-    /// same power cuts; but it moves before it knows whether the live records fit.
+    /// [`careful_commit`](Store::careful_commit) accepts it accepts too, with the same bytes, the
+    /// same tallies and the same power cuts; but it moves before it knows whether the live records
+    /// fit.
     ///
     /// Refusals: OutputShort, NotValid, SystemLimit, CommonLimit, LastMove, in this order. Last
-    /// MovedOver, as [`NotCommitted::Moved`]: leave the flash alone, without the erase, and open it
-    /// again.
-    pub fn commit<'o>(&mut self, output: &'o mut [u8]) -> Result<Commit<'o>, NotCommitted> {
-        let mut requests = [u64::MAX; 4];
-        let number = lent::commit(&mut self.state, self.work, output, &mut requests);
+    /// MovedOver, as [`NotCommitted::Moved`]: the erase that it asks for has counted; leave the flash
+    /// alone, without that erase, and open it again.
+    pub fn commit<'o>(
+        &mut self,
+        caller: Caller,
+        output: &'o mut [u8],
+    ) -> Result<Commit<'o>, NotCommitted> {
+        let (mut requests, caller) = ([u64::MAX; 4], caller.number());
+        let number = lent::commit(&mut self.state, self.work, output, caller, &mut requests);
         commit::told(number, requests, output)
     }
 
@@ -183,9 +196,11 @@ impl<'a> Store<'a> {
         state::number(&self.state, STATE_ACTIVE) as usize
     }
 
-    /// Erase requests since the opening; it stops at 4,294,967,295.
-    pub fn tally(&self) -> u32 {
-        state::number(&self.state, STATE_TALLY)
+    /// Whose commits wear the flash: erase requests since the opening, by caller and in all.
+    pub fn tally(&self) -> Tally {
+        let mut tally = [u64::MAX; 3];
+        let number = lent::tally(&self.state, &mut tally);
+        tally::told(number, tally)
     }
 
     /// What bank `i` is; `None` where there are no more than `i`.

@@ -8,6 +8,7 @@ mod faults;
 mod figures;
 mod run_log;
 mod settings;
+mod tally;
 
 use feqyondil::bank_cause;
 use proptest::strategy::{Just, Strategy};
@@ -16,7 +17,7 @@ use super::any_state::AnyState;
 use super::banks::{self, Banks, PortReader};
 use super::checksum::{self, Checksum};
 use super::runs::Runs;
-use crate::describe::{case, run, Bytes, Reach, Run, Style};
+use crate::describe::{case, moving_case, run, Bytes, Reach, Run, Style};
 use crate::judge::{Comparison, Difference, Judge, Mode, Part};
 use crate::partition::lent::{self, Lending};
 use crate::partition::slot::Slot;
@@ -27,6 +28,7 @@ use barrel::*;
 use careful::*;
 use faults::*;
 use figures::*;
+use tally::*;
 
 /// The first difference among many inputs, made small.
 fn found<C: Comparison>(
@@ -78,10 +80,9 @@ const RUNS: [Row; 13] = [
     (refuses_with_a_record, 1, 0, &["01:   7, system 0, common 0, 0 records", "port: 7"]),
 ];
 
-const MOVING_RUNS: [Row; 15] = [
+const MOVING_RUNS: [Row; 14] = [
     (asks_for_nothing, 1, 0, &["port: 0, erase 0 at 0, write at 0, length 0"]),
     (writes_the_old_bank, 3, 2, &["01:   0, erase ", "port: 0, erase "]),
-    (counts_twice, 3, 2, &["tally 1", "tally 2"]),
     (erases_the_empty, 3, 2, &["01:   0, erase 0 at 0", "port: 0, erase 1 at "]),
     (writes_the_dead_wrong, 3, 2, &["from 26 on, 01: 7c", "port: ff"]),
     (drops_the_dead, 3, 2, &["from 24 on, 01: aa557c", "port: "]),
@@ -97,7 +98,7 @@ const MOVING_RUNS: [Row; 15] = [
 ];
 
 const CAREFUL_RUNS: [Row; 9] = [
-    (counts_with_12, 2, 2, &["01's state:   n ", "tally 0", "tally 1"]),
+    (counts_with_12, 2, 2, &["01's state:   n ", "clock 0, barrel 0", "clock 1, barrel 0"]),
     (asks_with_12, 2, 2, &["01:   12, erase 0 at 0", "port: 12, erase 1 at "]),
     (writes_with_12, 2, 2, &["01:   12, erase 0 at 0", "from 0 on, 01: a5", "port: ff"]),
     (moves_before_12, 2, 2, &["01's state: ", "port's state: "]),
@@ -119,9 +120,29 @@ const BARREL_RUNS: [Row; 8] = [
     (limits_the_clock, 1, 0, &["call 1: insert of ", "01:   0\n  port: 15"]),
 ];
 
-const ANY_STATE: [Row; 2] = [
+const TALLY_RUNS: [Row; 8] = [
+    (counts_twice, 3, 2, &["clock 1, barrel 0", "clock 2, barrel 0"]),
+    (counts_for_the_other, 3, 2, &["clock 1, barrel 0", "clock 0, barrel 1"]),
+    (takes_others_as_the_clock, 3, 2, &["clock 0, barrel 1", "clock 1, barrel 0"]),
+    (counts_in_place, 1, 0, &["clock 0, barrel 0", "clock 1, barrel 0"]),
+    (counts_every_move, 3, 2, &["01's state: ", "port's state: "]),
+    (counts_no_12, 2, 2, &["clock 1, barrel 0", "clock 0, barrel 0"]),
+    (counts_a_barrel_insert, 1, 0, &["clock 0, barrel 0", "clock 0, barrel 1"]),
+    (opens_with_a_tally, 0, 0, &["clock 0, barrel 0", "clock 0, barrel 1515870810"]),
+];
+
+const ANY_STATE: [Row; 6] = [
     (skips_entries, 0, 0, &["01:   6, found 0"]),
-    (wraps_the_tally, 1, 2, &["tally 4294967295", "tally 0"]),
+    (wraps_the_total, 0, 0, &["total 4294967295\n", "port: 0, clock "]),
+    (sums_past_the_stop, 0, 0, &["total 4294967295\n", "total 4294967296"]),
+    (writes_no_zeros_with_6, 0, 0, &["01:   6, clock 0, barrel 0, total 0"]),
+    (asks_for_a_sound_state, 0, 0, &["01:   0, clock 0, barrel 0, total 0", "port: 6"]),
+    (tells_of_any_kinds, 0, 0, &["01:   6, clock 0, barrel 0, total 0", "port: 0"]),
+];
+
+const MOVING_STATE: [Row; 2] = [
+    (wraps_a_tally, 1, 1, &["clock 4294967295, barrel 0", "clock 0, barrel 0"]),
+    (stops_with_the_total, 1, 1, &["barrel 4294967295", "clock 1, ", "clock 0, "]),
 ];
 
 fn planted(fault: fn(&mut Done)) -> Port {
@@ -137,10 +158,10 @@ fn small((_, calls, records, words): Row, size: (usize, usize), told: &str) {
 fn faults_are_found_in_runs() {
     let moving = || Style { reach: Just(Reach::Free).boxed(), ..Style::small() };
     let rows = RUNS.into_iter().chain(BARREL_RUNS).map(|row| (Style::store(), row));
-    let rows = rows.chain(MOVING_RUNS.map(|row| (moving(), row)));
+    let rows = rows.chain(MOVING_RUNS.into_iter().chain(TALLY_RUNS).map(|row| (moving(), row)));
     for (style, row) in rows.chain(CAREFUL_RUNS.map(|row| (Style::careful(), row))) {
         let runs = Runs { port: planted(row.0) };
-        let Difference { input, why } = found_from(18, &runs, run(&style, 20, false));
+        let Difference { input, why } = found_from(33, &runs, run(&style, 20, false));
         let size = (input.calls.len(), input.image.records());
         small(row, size, &format!("{input}\n{why}"));
     }
@@ -148,9 +169,11 @@ fn faults_are_found_in_runs() {
 
 #[test]
 fn faults_are_found_on_any_state() {
-    for row in ANY_STATE {
+    let any = ANY_STATE.map(|row| (case(false).boxed(), row));
+    let moving = MOVING_STATE.map(|row| (moving_case(false).boxed(), row));
+    for (cases, row) in any.into_iter().chain(moving) {
         let any = AnyState { port: planted(row.0) };
-        let Difference { input, why } = found(&any, case(false));
+        let Difference { input, why } = found_from(4, &any, cases);
         let size = (input.calls.len(), input.image.records());
         assert!(input.damages.len() <= 1, "{input}");
         small(row, size, &format!("{input}\n{why}"));

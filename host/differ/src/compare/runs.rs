@@ -71,8 +71,8 @@ mod tests {
     use crate::judge::Judge;
     use crate::store::lent::call::{BARREL, CAREFUL};
     use crate::store::run::counts::{
-        By, ABOUT_512, ACCEPTED_PAIRS, AFTER_12, ERASES, FOUND, MOVES, PAIRS, RUST_REOPENED,
-        WITHOUT_ROOM,
+        By, ABOUT_512, ACCEPTED_PAIRS, AFTER_12, BY_BOTH, BY_CALLER, ERASES, FOUND, MOVES, PAIRS,
+        PAST_STOP, PAST_TOTAL, RUST_REOPENED, WITHOUT_ROOM,
     };
 
     /// What is counted of these parts of the short mode.
@@ -117,6 +117,9 @@ mod tests {
         assert!(of(MOVES) > 120 && of(ERASES) < of(MOVES) && of(PAIRS) > 30, "{all}");
         assert!(of(FOUND) > 100 && of(RUST_REOPENED) > 100, "{all}");
         assert!(of(AFTER_12) > 5 && of(ACCEPTED_PAIRS) > of(PAIRS), "{all}");
+        assert!(BY_CALLER.iter().all(|caller| of(caller) > 50) && of(BY_BOTH) > 10, "{all}");
+        assert_eq!(BY_CALLER.map(of).iter().sum::<u64>(), of(ERASES), "{all}");
+        assert!(of(PAST_STOP) > 5 && of(PAST_TOTAL) > of(PAST_STOP), "{all}");
     }
 
     #[test]

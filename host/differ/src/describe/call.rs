@@ -10,7 +10,7 @@ use super::list::list;
 use super::style::Style;
 use super::value::{Room, Value};
 use crate::store::book::{Bank, Book, LIVE};
-use crate::store::lent::call::{self, Manner, Way, What};
+use crate::store::lent::call::{self, Caller, Manner, Way, What};
 
 #[derive(Clone, Debug, PartialEq)]
 pub enum Call {
@@ -21,7 +21,7 @@ pub enum Call {
     Value(Var, usize),
     Figures,
     /// With room for so many bytes more than it needs.
-    Commit(Way, isize),
+    Commit(Way, Caller, isize),
     Whole(isize),
     /// As it is.
     Made(call::Call),
@@ -58,9 +58,9 @@ impl Call {
         let (what, var) = match self {
             Call::Made(call) => return call.clone(),
             Call::Figures => return call::Call::figures(),
-            Call::Commit(way, more) => {
+            Call::Commit(way, caller, more) => {
                 let way = if reach == Reach::Over && is_over(bank) { Way::Careful } else { *way };
-                let what = What::Commit(way, room(*more, BANK as isize));
+                let what = What::Commit(way, *caller, room(*more, BANK as isize));
                 return call::Call::new(what, b"", 0);
             }
             Call::Whole(more) => return call::Call::whole(room(*more, banks * BANK as isize)),
@@ -121,14 +121,15 @@ impl Var {
     }
 }
 
-fn typ() -> impl Strategy<Value = u32> {
+/// A type or a caller: 0, 1, or another number, which is taken as 1.
+fn choice() -> impl Strategy<Value = u32> {
     prop_oneof![12 => select(&[0, 1][..]), 1 => select(&[2, 256, u32::MAX][..]), 1 => any::<u32>()]
 }
 
 fn var(style: &Style) -> impl Strategy<Value = Var> {
     prop_oneof![
-        4 => (style.key.clone(), typ()).prop_map(|(key, typ)| Var::Of(key, typ)),
-        3 => (0..64usize, typ()).prop_map(|(i, typ)| Var::Known(i, typ)),
+        4 => (style.key.clone(), choice()).prop_map(|(key, typ)| Var::Of(key, typ)),
+        3 => (0..64usize, choice()).prop_map(|(i, typ)| Var::Known(i, typ)),
         1 => (0..64usize).prop_map(Var::Live),
     ]
 }
@@ -148,14 +149,18 @@ pub fn edit(style: &Style) -> impl Strategy<Value = Call> {
     ]
 }
 
+pub fn commit(style: &Style) -> impl Strategy<Value = Call> {
+    (style.way.clone(), choice(), room())
+        .prop_map(|(way, caller, room)| Call::Commit(way, Caller(caller), room))
+}
+
 pub fn call(style: &Style) -> impl Strategy<Value = Call> {
     let value = (var(style), select(&[0, 1, 8, 100, 1000][..]));
     prop_oneof![
         5 => var(style).prop_map(Call::Lookup),
         3 => value.prop_map(|(var, room)| Call::Value(var, room)),
         2 => Just(Call::Figures),
-        style.commits => (style.way.clone(), room())
-            .prop_map(|(way, room)| Call::Commit(way, room)),
+        style.commits => commit(style),
         1 => room().prop_map(Call::Whole),
         3 + style.inserts => edit(style),
     ]
@@ -199,7 +204,7 @@ mod tests {
             Call::Insert(Manner::Plain, var, value)
         };
         let mut book = Book::open(&image, usize::MAX).unwrap();
-        let commit = Call::Commit(Way::Old, 0);
+        let commit = Call::Commit(Way::Old, Caller::CLOCK, 0);
         let over = insert(1).made(Some(&book), Reach::Over);
         assert_eq!(over.what, What::Insert(Manner::Plain, vec![7]));
         assert_eq!(commit.made(Some(&book), Reach::Over), call::Call::commit(BANK));

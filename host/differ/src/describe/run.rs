@@ -10,9 +10,10 @@ use super::call::{calls, Call, Reach};
 use super::image::{image, Image};
 use super::list::needed;
 use super::style::Style;
+use super::tallies::tallies;
 use crate::store::book::Book;
 use crate::store::lent::call;
-use crate::store::lent::state::STATE;
+use crate::store::lent::state::{Tallies, STATE};
 use crate::store::lent::Standing;
 use crate::store::run;
 
@@ -24,6 +25,8 @@ pub struct Run {
     /// Bytes of state, and of work area beyond those that the banks need.
     pub state: usize,
     pub spare: isize,
+    /// What is put into the opened state.
+    pub tallies: Tallies,
     pub standing: Standing,
     /// Goes through the crate's `Store` too.
     pub by_store: bool,
@@ -38,6 +41,7 @@ impl Run {
             reach: Reach::Free,
             state: made.state,
             spare: made.spare,
+            tallies: made.tallies,
             standing: made.standing,
             by_store: false,
         }
@@ -48,6 +52,7 @@ impl Run {
             image: self.image.made(),
             state: self.state,
             spare: self.spare,
+            tallies: self.tallies,
             standing: self.standing,
             calls: Vec::new(),
         };
@@ -75,7 +80,7 @@ impl Display for Run {
         writeln!(f, "{}", self.image)?;
         let (state, work) = (self.state, made.work());
         write!(f, "  {state} bytes of state, {work} of work area, ")?;
-        write!(f, "{:?}, by `Store` too: {}", self.standing, self.by_store)?;
+        write!(f, "{:?}, by `Store` too: {}, {:?}", self.standing, self.by_store, self.tallies)?;
         for (i, (call, made)) in self.calls.iter().zip(&made.calls).enumerate() {
             write!(f, "\n  call {}: {made} ({call:?})", i + 1)?;
         }
@@ -94,9 +99,10 @@ pub fn standing(alone: bool) -> BoxedStrategy<Standing> {
     }
 }
 
-/// Where its inserts go as far as they go, now and then more is lent than needed, or less.
+/// Where its inserts go as far as they go, now and then more is lent than needed, or less. Of four
+/// runs one goes on with tallies that someone put in.
 pub fn run(style: &Style, most: usize, alone: bool) -> impl Strategy<Value = Run> {
-    let state = select(&[0, 12, STATE - 1, STATE + 1, STATE + 60, 1000][..]);
+    let state = select(&[0, 16, STATE - 4, STATE - 1, STATE + 1, STATE + 60, 1000][..]);
     let spare = select(&[-1, -131_072, 1, 1000, 131_072, isize::MIN / 2][..]);
     let state = prop_oneof![7 => Just(STATE), 1 => state];
     let spare = prop_oneof![7 => Just(0), 1 => spare];
@@ -106,13 +112,16 @@ pub fn run(style: &Style, most: usize, alone: bool) -> impl Strategy<Value = Run
         calls(style, most),
         state,
         spare,
+        prop_oneof![3 => Just(Tallies::default()), 1 => tallies()],
         standing(alone),
         prop::bool::weighted(0.25),
         needed(RECORDS),
     )
-        .prop_map(|(mut image, reach, calls, state, spare, standing, by_store, needed)| {
-            keep(&mut image.slots, &needed);
-            let (state, spare) = if reach == Reach::Free { (state, spare) } else { (STATE, 0) };
-            Run { calls, image, reach, state, spare, standing, by_store }
-        })
+        .prop_map(
+            |(mut image, reach, calls, state, spare, tallies, standing, by_store, needed)| {
+                keep(&mut image.slots, &needed);
+                let (state, spare) = if reach == Reach::Free { (state, spare) } else { (STATE, 0) };
+                Run { calls, image, reach, state, spare, tallies, standing, by_store }
+            },
+        )
 }

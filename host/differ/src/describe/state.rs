@@ -2,28 +2,29 @@
 
 use std::fmt::{self, Display, Formatter};
 
-use ::image::{number, put_number};
+use ::image::{number, put_number, HEADER};
 use proptest::prelude::*;
 use proptest::sample::select;
 
 use super::bank::keep;
 use super::bytes::{lend, Bytes};
-use super::call::{call, calls, Call, Reach};
+use super::call::{call, calls, commit, Call, Reach};
 use super::damage::{damage, field, numbers, Damage, Place};
 use super::image::{image, Image};
 use super::list::{list, needed};
 use super::run::{made_calls, standing, RECORDS};
 use super::style::Style;
+use super::tallies::tallies;
 use crate::store::book::{Book, Slot, PART};
 use crate::store::fuzz;
-use crate::store::lent::state::{entry_at, total_at, ENTRIES, STATE};
+use crate::store::lent::state::{entry_at, total_at, usable_at, State, Tallies, ENTRIES, STATE};
 use crate::store::lent::Standing;
 
 #[derive(Clone, Debug, PartialEq)]
 pub struct Case {
     pub calls: Vec<Call>,
     pub image: Image,
-    pub tally: u32,
+    pub tallies: Tallies,
     pub damages: Vec<StateDamage>,
     /// The one that is compared.
     pub call: Call,
@@ -41,6 +42,9 @@ pub enum StateDamage {
     Shorter(usize, bool, bool),
     /// A name of a bank's record ends so much later, and the record where it did.
     Name(usize, usize, u32),
+    /// No byte behind the active bank's header is usable, so that a commit has to move its records.
+    /// That leaves it sound.
+    Due,
     /// So many bytes more or less of either are lent.
     Lend(isize, isize),
     /// All bytes of both.
@@ -55,7 +59,7 @@ impl Case {
         let calls = made_calls(&self.calls, book.clone(), Reach::Free);
         if let Some(book) = &mut book {
             calls.iter().for_each(|call| drop(book.answer(call)));
-            book.tally = self.tally;
+            book.tallies = self.tallies;
         }
         let state = book.as_ref().map_or([0; STATE], |b| b.state().bytes());
         let mut case = fuzz::Case {
@@ -89,6 +93,10 @@ impl StateDamage {
             StateDamage::Part(i, _) | StateDamage::Shorter(i, ..) | StateDamage::Name(i, ..) => {
                 self.in_bank(case, slots, i % slots.len().max(1));
             }
+            StateDamage::Due => {
+                let state = State::read(&case.state).unwrap_or_default();
+                self.in_bank(case, slots, state.active as usize);
+            }
         }
     }
 
@@ -120,6 +128,9 @@ impl StateDamage {
                 put_number(record, 8, name.wrapping_add(*more));
                 put_number(record, 12, value.wrapping_sub(*more));
             }
+            (StateDamage::Due, Some(_)) if case.state.len() >= STATE => {
+                put_number(&mut case.state, usable_at(i), HEADER as u32);
+            }
             _ => {}
         }
     }
@@ -132,46 +143,58 @@ impl Display for Case {
             writeln!(f, "  call {}: {call:?}", i + 1)?;
         }
         let (damages, call) = (&self.damages, self.made().call);
-        write!(f, "  tally {}, {:?}", self.tally, self.standing)?;
+        write!(f, "  {:?}, {:?}", self.tallies, self.standing)?;
         write!(f, "\n  damages: {damages:?}\n  then: {call} ({:?})", self.call)
     }
 }
 
+/// Places of the numbers at a state's front; of an entry's, and of the next one's kind.
+const PLACES: [usize; 4] = [0, 4, 8, 12];
+
 fn state_damage() -> impl Strategy<Value = StateDamage> {
     let bank = || 0..16usize;
     let more = select(&[1, u32::MAX, 1 << 16][..]);
-    let state = select(&[0, 0, 1, 90, -1, -4, -203, -204][..]);
+    let state = select(&[0, 0, 1, 90, -1, -4, -207, -208][..]);
     let work = prop_oneof![Just(0), select(&[-1, 1, 77][..]), -(PART as isize)..PART as isize];
-    let flip = (field(&[0, 4, 8]), 0..8u8).prop_map(|(at, bit)| Damage::Flip(at, bit));
+    let flip = (field(&PLACES), 0..8u8).prop_map(|(at, bit)| Damage::Flip(at, bit));
     let end = (select(&[0, 1, PART - 1][..]), 0..8u8);
     let end = end.prop_map(|(offset, bit)| Damage::Flip(Place { record: 0, offset }, bit));
     let part = prop_oneof![6 => damage(), 1 => end];
     let shorter = (bank(), any::<bool>(), any::<bool>());
     prop_oneof![
-        5 => prop_oneof![4 => numbers(&[0, 4, 8]), 1 => flip].prop_map(StateDamage::State),
+        5 => prop_oneof![4 => numbers(&PLACES), 1 => flip].prop_map(StateDamage::State),
         7 => (bank(), part).prop_map(|(i, damage)| StateDamage::Part(i, damage)),
         1 => shorter.prop_map(|(i, part, total)| StateDamage::Shorter(i, part, total)),
         1 => (bank(), 0..40usize, more).prop_map(|(i, at, more)| StateDamage::Name(i, at, more)),
         2 => (state, work).prop_map(|(state, work)| StateDamage::Lend(state, work)),
         1 => any::<u16>().prop_map(|seed| StateDamage::Random(seed.into())),
+        1 => Just(StateDamage::Due),
     ]
 }
 
-/// A store after a few calls, any tally, and up to two damages, of which some leave it sound.
+/// A store after a few calls, any tallies, and up to two damages, of which some leave it sound.
 pub fn case(alone: bool) -> impl Strategy<Value = Case> {
     let style = Style::store();
-    let tally = prop_oneof![select(&[0, 1, u32::MAX][..]), any::<u32>()];
-    (
-        image(&style),
-        calls(&style, 6),
-        tally,
-        list(state_damage(), 2),
-        call(&style),
-        standing(alone),
-        needed(RECORDS),
-    )
-        .prop_map(|(mut image, calls, tally, damages, call, standing, needed)| {
+    of_store(&style, list(state_damage(), 2), call(&style), alone)
+}
+
+/// A commit of a store after a few calls, with any tallies, whose active bank has to move.
+pub fn moving_case(alone: bool) -> impl Strategy<Value = Case> {
+    let style = Style::small();
+    of_store(&style, Just(vec![StateDamage::Due]), commit(&style), alone)
+}
+
+fn of_store(
+    style: &Style,
+    damages: impl Strategy<Value = Vec<StateDamage>>,
+    call: impl Strategy<Value = Call>,
+    alone: bool,
+) -> impl Strategy<Value = Case> {
+    let standing = standing(alone);
+    (image(style), calls(style, 6), tallies(), damages, call, standing, needed(RECORDS)).prop_map(
+        |(mut image, calls, tallies, damages, call, standing, needed)| {
             keep(&mut image.slots, &needed);
-            Case { calls, image, tally, damages, call, standing }
-        })
+            Case { calls, image, tallies, damages, call, standing }
+        },
+    )
 }

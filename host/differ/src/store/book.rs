@@ -7,6 +7,7 @@ mod edit;
 mod figures;
 mod list;
 pub mod sound;
+pub mod tally;
 
 use super::lent::call::{Answer, Call, What};
 
@@ -17,11 +18,12 @@ impl Book {
     /// What a call answers; an accepted edit changes the active bank, a commit may move it.
     pub fn answer(&mut self, call: &Call) -> Answer {
         match call.what {
-            What::Commit(way, room) => self.commit(call, way, room),
+            What::Commit(way, caller, room) => self.commit(call, way, caller, room),
             What::Whole(room) => self.whole(call, room),
             What::Lookup | What::Value(_) => self.lookup(call),
             What::Figures => self.figures(call),
             What::Insert(..) | What::Remove => self.edit(call),
+            What::Tally => self.tally(),
         }
     }
 }

@@ -8,6 +8,7 @@ use image::{put_number, BANK};
 
 use super::fuzz::{self, Case};
 use super::lent::call::{Call, What, CAREFUL};
+use super::lent::state::{Tallies, STATE};
 use super::lent::{Port, Standing};
 use super::run::counts::{Counts, ERASES, MOVES, RUST_CALLED, RUST_OPENED};
 use super::run::{compare, Run};
@@ -80,7 +81,7 @@ fn the_rust_has_no_ceiling_for_barrels() {
     let image = plain(1);
     let mut rust = rust::Rust::open(&image).unwrap().unwrap();
     assert_eq!(rust.answer(&barrel(513)).unwrap().to_string(), "0");
-    assert_eq!(rust.book(0).unwrap().state().entries[0].total, 574);
+    assert_eq!(rust.book(Tallies::default()).unwrap().state().entries[0].total, 574);
     let counts = |len| judged(&image, vec![barrel(len), Call::figures()]);
     let (over, full) = (counts(513), counts(512));
     assert_eq!((over.numbers.of(15), over.others.of(RUST_CALLED)), (1, 1));
@@ -92,9 +93,9 @@ fn what_is_lent_is_checked() {
     let mut run = Run::new(plain(1), Vec::new());
     run.spare = -1;
     assert_eq!(compare(&run, Port::default()).unwrap().openings.of(3), 1);
-    let zeros = Case { state: vec![0; 204], work: vec![0xFF; 131_072], call: insert(0) };
-    let sound = fuzz::compare(&zeros, Port::default(), Standing::Guarded(0));
-    assert_eq!(sound, Ok(false));
+    let zeros = Case { state: vec![0; STATE], work: vec![0xFF; 131_072], call: insert(0) };
+    let seen = fuzz::compare(&zeros, Port::default(), Standing::Guarded(0));
+    assert_eq!(seen.map(|seen| (seen.sound, seen.tallied)), Ok((false, true)));
 }
 
 #[test]

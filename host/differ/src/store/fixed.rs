@@ -2,6 +2,7 @@
 //! seen, also as text with the oracle's answers, and the bench case of two banks.
 
 mod barrel;
+mod callers;
 mod careful;
 mod commits;
 pub mod edges;
@@ -19,9 +20,10 @@ use super::lent::call::Call;
 use super::run::Run;
 use pieces::{ending, get, held, put, remove, value, Named};
 
-/// The list's runs, and those with calls that the oracle cannot be asked.
+/// The list's runs, and those that it cannot have: the oracle cannot be asked a call of theirs, or
+/// they go on with a state that someone made.
 pub fn runs() -> Vec<Run> {
-    let others = careful::others().into_iter().chain(barrel::others());
+    let others = [careful::others(), barrel::others(), callers::others()].concat();
     list().into_iter().chain(others).map(|(_, run)| run).collect()
 }
 
@@ -40,6 +42,7 @@ fn list() -> Vec<Named> {
     out.extend(commits::list());
     out.extend(careful::list());
     out.extend(barrel::list());
+    out.extend(callers::list());
     out
 }
 

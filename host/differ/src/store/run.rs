@@ -1,6 +1,7 @@
 //! A run on every side: an opening and a list of calls, each followed by a look at the answer, the
 //! state, the whole work area and, after commits, the flash.
 
+mod callers;
 pub mod counts;
 mod demand;
 pub mod domain;
@@ -9,12 +10,13 @@ mod input;
 pub mod wear;
 pub mod wrapper;
 
-use super::book::{Book, PART};
+use super::book::{tally, Book, PART};
 use super::lent::call::{parting, Answer, Call};
-use super::lent::same::{same_state, same_work};
-use super::lent::state::STATE;
+use super::lent::same::{same_state, same_tally, same_work};
+use super::lent::state::{Tallies, STATE};
 use super::lent::{Lent, Port};
 use super::rust::Rust;
+use callers::Erases;
 use counts::{Counts, MOVES, RUST_CALLED, RUST_OPENED};
 use demand::Watch;
 use domain::{comparable, within};
@@ -35,7 +37,9 @@ pub fn compare(run: &Run, port: Port) -> Result<Counts, String> {
         return Err(format!("at the opening\n  01:   {said}\n  port: {number}"));
     }
     sides.same(&lent).map_err(at_opening)?;
+    same_tally(&tally::of_state(&sides.state), &mut lent).map_err(at_opening)?;
     sides.ask_rust(run).map_err(at_opening)?;
+    sides.put(run.tallies, &mut lent);
     for (i, call) in run.calls.iter().enumerate() {
         let place = |fault| format!("at call {} ({call}){fault}", i + 1);
         sides.call(&mut lent, call).map_err(place)?;
@@ -97,6 +101,16 @@ impl<'a> Sides<'a> {
         }
     }
 
+    /// Someone puts tallies into the state.
+    fn put(&mut self, tallies: Tallies, lent: &mut Lent) {
+        if let Ok(book) = &mut self.book {
+            book.tallies = tallies;
+            self.watch.erases = Erases::new(tallies);
+            self.keep();
+            lent.state.slice_mut().copy_from_slice(&self.state);
+        }
+    }
+
     fn call(&mut self, lent: &mut Lent, call: &Call) -> Result<(), String> {
         let (said, within) = match &mut self.book {
             Ok(book) => {
@@ -144,7 +158,7 @@ impl<'a> Sides<'a> {
         rust: Option<Answer>,
     ) -> Result<(), String> {
         let Ok(book) = &mut self.book else {
-            return Ok(());
+            return same_tally(&tally::of_state(&self.state), lent);
         };
         let (watch, counts) = (&mut self.watch, &mut self.counts);
         watch.called(call, &port, rust.as_ref(), (book, lent), counts)
@@ -175,7 +189,7 @@ impl<'a> Sides<'a> {
             return Ok(());
         }
         let at = book.active * PART;
-        let has = rust.book(book.tally)?;
+        let has = rust.book(book.tallies)?;
         same_state(&book.state().bytes(), &has.state().bytes(), "Rust")?;
         same_work(&self.work[at..at + PART], &has.slots[has.active].part(), "Rust")
     }
@@ -194,7 +208,7 @@ impl<'a> Sides<'a> {
 }
 
 fn whole_as_said(rust: &Rust, book: &Book) -> Result<(), String> {
-    let has = rust.book(book.tally)?;
+    let has = rust.book(book.tallies)?;
     same_state(&book.state().bytes(), &has.state().bytes(), "Rust")?;
     same_work(&book.work(), &has.work(), "Rust")
 }

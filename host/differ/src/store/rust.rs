@@ -11,7 +11,7 @@ use oracle::{v3, Nvram, Partition, VarType};
 
 use super::book::{Bank, Book, Slot, PART};
 use super::lent::call::{lent, Answer, Call, Way, What};
-use super::lent::state::{EMPTY, INVALID, VALID};
+use super::lent::state::{Tallies, EMPTY, INVALID, VALID};
 use crate::partition::rust::{figure, header, record};
 use requests::Requests;
 use told::Told;
@@ -63,10 +63,11 @@ impl<'a> Rust<'a> {
     }
 
     /// What a call answers that 01's domain has. The active slot is to be Valid, but for a whole
-    /// image; no bank that is to be written is over its size. A barrel insert is to be accepted.
+    /// image; no bank that is to be written is over its size. A barrel insert is to be accepted. Who
+    /// commits it is not told.
     pub fn answer(&mut self, call: &Call) -> Result<Answer, String> {
         guarded(|| match call.what {
-            What::Commit(way, room) => self.commit(call, way, room),
+            What::Commit(way, _, room) => self.commit(call, way, room),
             What::Whole(room) => self.whole(room),
             What::Figures => self.figures(),
             What::Insert(..) | What::Remove => {
@@ -75,6 +76,7 @@ impl<'a> Rust<'a> {
                 Ok(Answer::Number(0))
             }
             What::Lookup | What::Value(_) => Ok(self.found(call)),
+            What::Tally => Err("it has no tally".to_string()),
         })?
     }
 
@@ -136,8 +138,8 @@ impl<'a> Rust<'a> {
         call.found(place, &found.value())
     }
 
-    /// The book that the store amounts to; the tally is not the Rust's.
-    pub fn book(&self, tally: u32) -> Result<Book, String> {
+    /// The book that the store amounts to; the tallies are not the Rust's.
+    pub fn book(&self, tallies: Tallies) -> Result<Book, String> {
         let mut valid = peek::valid_banks(&self.store).into_iter().zip(&self.told.usable);
         let slots = self.told.kinds.iter().map(|&kind| match kind {
             EMPTY => Ok(Slot::Empty),
@@ -153,7 +155,7 @@ impl<'a> Rust<'a> {
             }
         });
         let slots = slots.collect::<Result<_, String>>()?;
-        Ok(Book { active: self.told.active, tally, slots })
+        Ok(Book { active: self.told.active, tallies, slots })
     }
 
     /// Whatever was called since a bank last moved changed records only.
@@ -228,9 +230,10 @@ mod tests {
         let mut rust = Rust::open(&image).unwrap().unwrap();
         let remove = Call::new(What::Remove, b"rate", 1);
         assert_eq!(rust.answer(&remove), Ok(Answer::Number(0)));
-        let book = rust.book(7).unwrap();
+        let tallies = Tallies { clock: 7, barrel: 8 };
+        let book = rust.book(tallies).unwrap();
         let (state, work) = (book.state(), book.work());
-        assert_eq!((state.n, state.active, state.tally), (3, 1, 7));
+        assert_eq!((state.n, state.active, state.tallies), (3, 1, tallies));
         assert_eq!((state.entries[1].total, work.len()), (74, 3 * PART));
         assert_eq!((work[PART + 24 + 2], work[PART + 73]), (0x7C, b'9'));
     }
@@ -257,7 +260,7 @@ mod tests {
         for call in [insert(60_000), insert(60_000), careful.clone(), insert(BANK)] {
             rust.answer(&call).unwrap();
         }
-        let (before, told) = (format!("{:?}", rust.store), rust.book(0).unwrap());
+        let (before, told) = (format!("{:?}", rust.store), rust.book(Tallies::default()).unwrap());
         assert_eq!((told.active, told.active_bank().unwrap().records.len()), (1, 2));
         for _ in 0..2 {
             assert_eq!(rust.answer(&careful), Ok(careful.refused(12)));

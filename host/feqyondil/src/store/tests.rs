@@ -1,8 +1,11 @@
 //! A store on lent buffers, from its opening to its refusals.
 
+mod tally;
+
 use std::vec;
 use std::vec::Vec;
 
+use super::Caller::{Barrel, Clock};
 use super::VarType::{Common, System};
 use super::*;
 use crate::{Kind, BANKS_MAX, BANK_SIZE, BARREL_VALUE_MAX, PART_SIZE};
@@ -121,7 +124,7 @@ fn a_commit_is_written_and_reopened() {
     let mut output = vec![7; 2 * BANK_SIZE];
     let mut store = Store::open(&flash, &mut first).unwrap();
     store.insert(b"rate", b"123456789", System).unwrap();
-    let done = store.commit(&mut output).unwrap();
+    let done = store.commit(Clock, &mut output).unwrap();
     assert_eq!((done.erase, done.offset), (None, 0));
     assert_eq!(done.bytes.len(), BANK_SIZE);
     flash[..BANK_SIZE].copy_from_slice(done.bytes);
@@ -140,15 +143,15 @@ fn a_move_asks_for_the_erase_of_the_next_bank() {
     let mut store = Store::open(&flash, &mut work).unwrap();
     let value = vec![7; BANK_SIZE - 24 - 37];
     store.insert(b"", &value, Common).unwrap();
-    assert_eq!(store.commit(&mut output).unwrap().erase, None);
+    assert_eq!(store.commit(Clock, &mut output).unwrap().erase, None);
     store.insert(b"", b"", Common).unwrap();
-    let moved = store.commit(&mut output).unwrap();
+    let moved = store.commit(Clock, &mut output).unwrap();
     assert_eq!((moved.erase, moved.offset), (Some(BANK_SIZE), BANK_SIZE));
     assert_eq!(moved.bytes[8], 2);
     store.insert(b"k", &value, Common).unwrap();
     let over = NotCommitted::Moved { erase: Some(0) };
-    assert_eq!(store.commit(&mut output), Err(over));
-    assert_eq!(store.tally(), 2);
+    assert_eq!(store.commit(Barrel, &mut output), Err(over));
+    assert_eq!(store.tally(), tally(1, 1));
     assert_eq!(store.whole_image(&mut output), Err(Refusal::BankOver));
 }
 
@@ -167,7 +170,7 @@ fn winder() -> Vec<u8> {
     let (mut work, mut output) = (work(2), vec![0; BANK_SIZE]);
     let mut store = Store::open(&flash, &mut work).unwrap();
     store.insert(b"rate", b"123456789", System).unwrap();
-    carry_out(&mut flash, store.careful_commit(&mut output).unwrap());
+    carry_out(&mut flash, store.careful_commit(Clock, &mut output).unwrap());
     flash
 }
 
@@ -179,7 +182,7 @@ fn a_winder_that_retries_12_erases_its_good_bank_by_the_old_commit() {
     for (bank, opens) in [(1, Ok(())), (0, Err(Refusal::NoValid))] {
         let at = bank * BANK_SIZE;
         let over = NotCommitted::Moved { erase: Some(at) };
-        assert_eq!(store.commit(&mut vec![0; BANK_SIZE]), Err(over));
+        assert_eq!(store.commit(Clock, &mut vec![0; BANK_SIZE]), Err(over));
         flash[at..at + BANK_SIZE].fill(0xFF);
         assert_eq!(Store::open(&flash, &mut second).map(drop), opens);
     }
@@ -193,19 +196,24 @@ fn a_winder_that_retries_12_is_asked_for_nothing_by_the_careful_commit() {
     store.insert(b"log", &[7; BANK_SIZE], Common).unwrap();
     let before = (*store.state(), store.work().to_vec());
     for _ in 0..3 {
-        assert_eq!(store.careful_commit(&mut output), Err(Refusal::MovedOver));
+        assert_eq!(store.careful_commit(Clock, &mut output), Err(Refusal::MovedOver));
         assert_eq!((store.state(), store.work()), (&before.0, &before.1[..]));
         assert_eq!(output, [7; BANK_SIZE]);
     }
     let rate = Ok(Some(&b"123456789"[..]));
     assert_eq!(Store::open(&flash, &mut second).unwrap().get(b"rate", System), rate);
     store.remove(b"log", Common).unwrap();
-    let moved = store.careful_commit(&mut output).unwrap();
+    let moved = store.careful_commit(Clock, &mut output).unwrap();
     assert_eq!((moved.erase, moved.offset), (Some(BANK_SIZE), BANK_SIZE));
     carry_out(&mut flash, moved);
-    assert_eq!(store.tally(), 1);
+    assert_eq!(store.tally(), tally(1, 0));
     let again = Store::open(&flash, &mut second).unwrap();
     assert_eq!((again.active(), again.get(b"rate", System)), (1, rate));
+}
+
+/// With the sum as it is below the stop.
+fn tally(clock: u32, barrel: u32) -> Tally {
+    Tally { clock, barrel, total: clock + barrel }
 }
 
 #[test]
@@ -214,7 +222,7 @@ fn the_state_is_told() {
     let flash = [vec![0xFF; BANK_SIZE], image(), vec![0; BANK_SIZE]].concat();
     let mut store = Store::open(&flash, &mut work).unwrap();
     store.insert(b"rate", b"123456789", System).unwrap();
-    assert_eq!((store.banks(), store.active(), store.tally()), (3, 1, 0));
+    assert_eq!((store.banks(), store.active(), store.tally()), (3, 1, tally(0, 0)));
     let told =
         [(Kind::Empty, 0, 0), (Kind::Valid, 24 + 37 + 4 + 9, BANK_SIZE), (Kind::Invalid, 0, 0)];
     for (i, (kind, total, usable)) in told.into_iter().enumerate() {
@@ -239,11 +247,11 @@ fn refusals_are_told() {
     assert_eq!(store.remove(b"", Common), Err(Refusal::NotValid));
     assert_eq!(store.figures(), Err(Refusal::NotValid));
     let refused = |refusal| Err(NotCommitted::Refused(refusal));
-    assert_eq!(store.commit(&mut output), refused(Refusal::NotValid));
-    assert_eq!(store.careful_commit(&mut output), Err(Refusal::NotValid));
-    let short = store.commit(&mut output[1..]);
+    assert_eq!(store.commit(Clock, &mut output), refused(Refusal::NotValid));
+    assert_eq!(store.careful_commit(Barrel, &mut output), Err(Refusal::NotValid));
+    let short = store.commit(Barrel, &mut output[1..]);
     assert_eq!(short, refused(Refusal::OutputShort));
-    let short = store.careful_commit(&mut output[1..]);
+    let short = store.careful_commit(Clock, &mut output[1..]);
     assert_eq!(short, Err(Refusal::OutputShort));
     let whole = store.whole_image(&mut output);
     assert_eq!(whole, Err(Refusal::OutputShort));

@@ -1,15 +1,16 @@
 //! Faults of the careful commit.
 
-use image::{put_number, BANK};
+use image::BANK;
 
-use super::faults::{asked, moved, refuse, state};
+use super::faults::{asked, caller, moved, refuse, state};
+use super::tally::count;
 use crate::store::book::{sound, Bank};
-use crate::store::lent::call::{Answer, Way, What};
+use crate::store::lent::call::{Answer, Caller, Way, What};
 use crate::store::lent::port::Done;
 
 /// It is a careful commit with this number.
 fn answers(done: &Done, number: u32) -> bool {
-    let careful = matches!(done.call.map(|call| &call.what), Some(What::Commit(Way::Careful, _)));
+    let careful = matches!(done.call.map(|call| &call.what), Some(What::Commit(Way::Careful, ..)));
     careful && matches!(done.answer, Answer::Commit(answered, ..) if answered == number)
 }
 
@@ -28,8 +29,7 @@ fn renumber(done: &mut Done, number: u32) {
 
 pub fn counts_with_12(done: &mut Done) {
     if answers(done, 12) {
-        let tally = state(done.state).tally;
-        put_number(done.state, 8, tally + 1);
+        count(done, caller(done));
     }
 }
 
@@ -50,7 +50,8 @@ pub fn writes_with_12(done: &mut Done) {
 /// What is live is looked at when the bank has moved.
 pub fn moves_before_12(done: &mut Done) {
     if answers(done, 12) {
-        feqyondil::lent::commit(done.state, done.work, &mut [0; BANK], &mut [0; 4]);
+        let Caller(caller) = caller(done);
+        feqyondil::lent::commit(done.state, done.work, &mut [0; BANK], caller, &mut [0; 4]);
     }
 }
 

@@ -5,7 +5,7 @@ use std::cell::RefCell;
 use image::{number, put_number, BANK, HEADER, RECORD};
 
 use crate::store::book::{LIVE, PART};
-use crate::store::lent::call::{Answer, Asked, What, NO_REQUEST, ROOM};
+use crate::store::lent::call::{Answer, Asked, Caller, What, NO_REQUEST, ROOM};
 use crate::store::lent::port::Done;
 use crate::store::lent::state::{total_at, usable_at, State, EMPTY, ENTRIES, STATE, VALID};
 
@@ -14,7 +14,7 @@ pub fn state(bytes: &[u8]) -> State {
 }
 
 /// The call is the opening and has this answer.
-fn opened(done: &Done, number: u32) -> bool {
+pub fn opened(done: &Done, number: u32) -> bool {
     done.call.is_none() && done.answer == Answer::Number(number)
 }
 
@@ -24,7 +24,7 @@ pub fn moved(done: &Done) -> bool {
 }
 
 /// It is a commit in place, and this is its output.
-fn in_place<'a>(done: &'a mut Done) -> Option<&'a mut Vec<u8>> {
+pub fn in_place<'a>(done: &'a mut Done) -> Option<&'a mut Vec<u8>> {
     match &mut done.answer {
         Answer::Commit(0, _, out) if done.before.0 == done.state => Some(out),
         _ => None,
@@ -35,6 +35,14 @@ pub fn asked<'a>(done: &'a mut Done) -> &'a mut Asked {
     match &mut done.answer {
         Answer::Commit(_, asked, _) => asked,
         other => panic!("no commit: {other}"),
+    }
+}
+
+/// Who commits.
+pub fn caller(done: &Done) -> Caller {
+    match done.call.map(|call| &call.what) {
+        Some(What::Commit(_, caller, _)) => *caller,
+        other => panic!("no commit: {other:?}"),
     }
 }
 
@@ -123,13 +131,6 @@ pub fn writes_the_old_bank(done: &mut Done) {
             let length = *length as usize;
             out[..length].copy_from_slice(&done.before.1[at..at + length]);
         }
-    }
-}
-
-pub fn counts_twice(done: &mut Done) {
-    if moved(done) && asked(done)[0] == 1 {
-        let tally = state(done.state).tally;
-        put_number(done.state, 8, tally + 1);
     }
 }
 
@@ -229,12 +230,6 @@ pub fn wraps_with_11(done: &mut Done) {
     }
 }
 
-pub fn wraps_the_tally(done: &mut Done) {
-    if moved(done) && state(&done.before.0).tally == u32::MAX {
-        put_number(done.state, 8, 0);
-    }
-}
-
 /// The check of a lookup skips those from n on.
 pub fn skips_entries(done: &mut Done) {
     let (mut told, mut found) = (state(done.state), [0; 3]);
@@ -267,8 +262,9 @@ pub fn erases_early(done: &mut Done) {
     let total = state(done.state).entries[active].total as usize;
     if total + 169 > BANK && in_place(done).is_some() {
         put_number(done.state, usable_at(active), HEADER as u32);
+        let Caller(caller) = caller(done);
         if let Answer::Commit(number, asked, out) = &mut done.answer {
-            *number = feqyondil::lent::commit(done.state, done.work, out, asked);
+            *number = feqyondil::lent::commit(done.state, done.work, out, caller, asked);
         }
     }
 }

@@ -1,19 +1,19 @@
 //! The commits and the whole image by the words of the scope paper (01), 'A commit, from the entry
-//! down', 'Edits and lookups' and 'Refusals', and of N4 of the change requests (02): written from
-//! them and from neither side's code.
+//! down', 'Edits and lookups' and 'Refusals', and of N4 and N7 of the change requests (02): written
+//! from them and from neither side's code.
 
 use image::{BANK, COMMON_GUID, SYSTEM_GUID};
 
 use super::bank::{Bank, Slot};
 use super::list::Book;
-use crate::store::lent::call::{lent, Answer, Call, Way};
+use crate::store::lent::call::{lent, Answer, Call, Caller, Way};
 
 /// No generation comes after it.
 const LAST: u32 = 4_294_967_295;
 
 impl Book {
     /// What a commit answers that was lent this much output; one that moves changes the book.
-    pub fn commit(&mut self, call: &Call, way: Way, room: usize) -> Answer {
+    pub fn commit(&mut self, call: &Call, way: Way, caller: Caller, room: usize) -> Answer {
         if room < BANK {
             return call.refused(5);
         }
@@ -38,6 +38,9 @@ impl Book {
         }
         let moved = bank.moved();
         let erase = self.move_on(moved);
+        if erase.is_some() {
+            self.tallies.count(caller);
+        }
         self.written(room, erase)
     }
 
@@ -47,7 +50,6 @@ impl Book {
         let erase = (self.slots[next] != Slot::Empty).then_some(next * BANK);
         self.slots[next] = Slot::Valid(moved);
         self.active = next;
-        self.tally = self.tally.saturating_add(u32::from(erase.is_some()));
         erase
     }
 
@@ -138,6 +140,11 @@ mod tests {
         }
     }
 
+    /// The clock's and the barrel's.
+    fn tallies(book: &Book) -> [u32; 2] {
+        [book.tallies.clock, book.tallies.barrel]
+    }
+
     fn requests(book: &mut Book) -> (u32, [u64; 4]) {
         asked(book, &Call::commit(BANK))
     }
@@ -159,15 +166,17 @@ mod tests {
         assert_eq!(requests(&mut book), (0, [0, 0, 0, 200]));
         insert(&mut book, 0, 1);
         assert_eq!(requests(&mut book), (0, [1, 65_536, 65_536, 200]));
-        assert_eq!((book.active, book.tally), (1, 1));
+        assert_eq!((book.active, tallies(&book)), (1, [1, 0]));
         let at = |i: usize| book.state().entries[i];
         assert_eq!((at(0).total, at(1).total, at(1).usable), (240, 103, 200));
         insert(&mut book, 90, 1);
         // The third slot is Empty, so nothing is to be erased.
         assert_eq!(requests(&mut book), (0, [0, 0, 131_072, 200]));
-        assert_eq!((book.active, book.tally), (2, 1));
+        assert_eq!((book.active, tallies(&book)), (2, [1, 0]));
         insert(&mut book, 80, 1);
-        assert_eq!(requests(&mut book), (0, [1, 0, 0, 200]));
+        let barrel = Call::careful(BANK).by(Caller::BARREL);
+        assert_eq!(asked(&mut book, &barrel), (0, [1, 0, 0, 200]));
+        assert_eq!(tallies(&book), [1, 1]);
         assert_eq!(book.active_bank().unwrap().header.generation, 8);
     }
 
@@ -185,8 +194,9 @@ mod tests {
         insert(&mut book, 8152, 0);
         assert_eq!(refused(&mut book), 11);
         book.active_bank_mut().unwrap().header.generation = 1;
-        assert_eq!(requests(&mut book), (12, [1, 0, 0, 0]));
-        assert_eq!((book.tally, book.state().entries[0].total), (1, 16_408));
+        let barrel = Call::commit(BANK).by(Caller::BARREL);
+        assert_eq!(asked(&mut book, &barrel), (12, [1, 0, 0, 0]));
+        assert_eq!((tallies(&book), book.state().entries[0].total), ([0, 1], 16_408));
         let whole = Call::whole(BANK);
         assert_eq!(book.answer(&whole), whole.refused(13));
         let mut other = opened(&[vec![0; BANK], bank(200, 0)]);
@@ -205,7 +215,7 @@ mod tests {
         assert_eq!(book, before);
         insert(&mut book, left, 1);
         assert_eq!(asked(&mut book, &careful), (0, [1, 65_536, 65_536, 200]));
-        assert_eq!((book.active, book.tally, book.state().entries[1].total), (1, 1, 200));
+        assert_eq!((book.active, tallies(&book), book.state().entries[1].total), (1, [1, 0], 200));
     }
 
     #[test]

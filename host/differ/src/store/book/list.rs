@@ -4,7 +4,7 @@ use image::BANK;
 
 use super::bank::{Bank, Slot, PART};
 use crate::partition::model;
-use crate::store::lent::state::State;
+use crate::store::lent::state::{State, Tallies};
 
 /// Images of this length or more are refused.
 const TOO_LONG: usize = 1_114_112;
@@ -12,7 +12,7 @@ const TOO_LONG: usize = 1_114_112;
 #[derive(Clone, Debug, PartialEq)]
 pub struct Book {
     pub active: usize,
-    pub tally: u32,
+    pub tallies: Tallies,
     pub slots: Vec<Slot>,
 }
 
@@ -34,7 +34,7 @@ impl Book {
         if !slots.iter().any(|slot| matches!(slot, Slot::Valid(_))) {
             return Err(4);
         }
-        Ok(Book { active: active(&slots), tally: 0, slots })
+        Ok(Book { active: active(&slots), tallies: Tallies::default(), slots })
     }
 
     /// Where the active slot is Valid.
@@ -61,7 +61,7 @@ impl Book {
         let mut state = State {
             n: self.slots.len() as u32,
             active: self.active as u32,
-            tally: self.tally,
+            tallies: self.tallies,
             ..State::default()
         };
         for (entry, slot) in state.entries.iter_mut().zip(&self.slots) {

@@ -18,7 +18,7 @@ pub fn book(state: &[u8], work: &[u8]) -> Option<Book> {
     }
     let banks = state.entries.iter().zip(work.chunks_exact(PART)).take(n);
     let slots = banks.map(|(entry, part)| slot(entry, part));
-    Some(Book { active, tally: state.tally, slots: slots.collect::<Option<_>>()? })
+    Some(Book { active, tallies: state.tallies, slots: slots.collect::<Option<_>>()? })
 }
 
 fn slot(entry: &Entry, part: &[u8]) -> Option<Slot> {
@@ -42,6 +42,7 @@ fn in_range(bank: &Bank<&[u8]>) -> bool {
 #[cfg(test)]
 mod tests {
     use super::*;
+    use crate::store::lent::state::Tallies;
     use image::{put_number, Header, Record};
 
     /// Two slots, the second Empty; the first has one record, and ends at 24 + 36 + 5 + 9.
@@ -59,8 +60,11 @@ mod tests {
         assert_eq!((&back.state().bytes()[..], back.work()), (&state[..], work.clone()));
         state.push(7);
         work.push(7);
-        put_number(&mut state, 8, u32::MAX); // the tally is free
-        assert_eq!(book(&state, &work).unwrap().tally, u32::MAX);
+        // The tallies are free.
+        put_number(&mut state, 8, u32::MAX);
+        put_number(&mut state, 12, 7);
+        let tallies = Tallies { clock: u32::MAX, barrel: 7 };
+        assert_eq!(book(&state, &work).unwrap().tallies, tallies);
     }
 
     #[test]
@@ -68,16 +72,16 @@ mod tests {
         for (at, wrong) in [
             (0, 0),       // n
             (4, 2),       // active
-            (12, 0),      // kind of bank 0
-            (12, 3),      // no kind
-            (16, 73),     // total
-            (16, 75),     // total
-            (20, 23),     // usable
-            (20, 65_537), // usable
-            (28, 1),      // total of the Empty slot
-            (24, 2),      // its kind
-            (36, 1),      // an entry from n on
-            (200, 1),     // the last number of all
+            (16, 0),      // kind of bank 0
+            (16, 3),      // no kind
+            (20, 73),     // total
+            (20, 75),     // total
+            (24, 23),     // usable
+            (24, 65_537), // usable
+            (32, 1),      // total of the Empty slot
+            (28, 2),      // its kind
+            (40, 1),      // an entry from n on
+            (204, 1),     // the last number of all
         ] {
             let (mut state, work) = sound();
             put_number(&mut state, at, wrong);
@@ -111,7 +115,7 @@ mod tests {
         for (size, right) in [(23, false), (24, true), (65_536, true), (65_537, false)] {
             let (mut state, mut work) = sound();
             put_number(&mut work, 4, size);
-            put_number(&mut state, 20, 24);
+            put_number(&mut state, 24, 24);
             assert_eq!(book(&state, &work).is_some(), right, "size {size}");
         }
     }

@@ -1,11 +1,11 @@
 //! Fixed runs with barrel inserts, by N5 of the change requests (02): what is told of each is the
 //! numbers that its inserts answer.
 
-use image::{put_number, Header, Record, BANK, COMMON_GUID, RECORD};
+use image::{Header, Record, BANK, COMMON_GUID, RECORD};
 
-use super::pieces::{held, put, remove, unlimited, value, Named, Numbered};
+use super::pieces::{held, put, remove, sized, value, Named, Numbered};
 use crate::store::book::PART;
-use crate::store::lent::call::Call;
+use crate::store::lent::call::{Call, Caller};
 use crate::store::run::Run;
 
 const KEY: &[u8] = b"tune";
@@ -50,13 +50,10 @@ fn places() -> Vec<Numbered> {
 /// Three moves, to the second bank first, that barrel inserts alone pay for: three records bring
 /// the first bank one byte over its size, and two records each bank that was moved to.
 fn moves() -> Vec<Numbered> {
-    let sized = |generation| {
-        let mut bank = unlimited(held(generation));
-        put_number(&mut bank, 4, (74 + 3 * LONGEST - 1) as u32);
-        bank
-    };
-    let calls = (0..7).flat_map(|i| [Call::barrel(KEY, &[i; 512], 0), Call::careful(BANK)]);
-    let run = Run::new([sized(1), sized(0)].concat(), calls.collect());
+    let bank = |generation| sized(74 + 3 * LONGEST - 1, generation);
+    let commit = Call::careful(BANK).by(Caller::BARREL);
+    let calls = (0..7).flat_map(|i| [Call::barrel(KEY, &[i; 512], 0), commit.clone()]);
+    let run = Run::new([bank(1), bank(0)].concat(), calls.collect());
     vec![(("barrel-moves", run), &[0; 7])]
 }
 

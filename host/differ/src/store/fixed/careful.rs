@@ -7,7 +7,7 @@ use super::pieces::{
     dead_past_size, ending, fill_and, get, held, put, remove, unlimited, value, whole, Named,
     Numbered,
 };
-use crate::store::lent::call::Call;
+use crate::store::lent::call::{Call, Caller};
 use crate::store::run::Run;
 
 /// Those that the Rust can be asked.
@@ -26,7 +26,7 @@ fn in_place() -> Vec<Numbered> {
         put(b"rate", b"1", 1),
         careful(),
         remove(b"rate", 1),
-        careful(),
+        careful().by(Caller::BARREL),
         value(b"rate", 1),
         whole(1),
     ];

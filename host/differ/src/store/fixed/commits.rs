@@ -5,7 +5,7 @@ use image::{put_number, Header, Record, BANK, COMMON_GUID, RECORD};
 use super::pieces::{
     dead_past_size, ending, fill_and, get, held, put, remove, unlimited, value, whole, Named,
 };
-use crate::store::lent::call::Call;
+use crate::store::lent::call::{Call, Caller};
 use crate::store::run::Run;
 
 pub fn list() -> Vec<Named> {
@@ -25,7 +25,7 @@ fn in_place() -> Vec<Named> {
         commit(),
         put(b"rate", b"2", 1),
         remove(b"none", 0),
-        commit(),
+        commit().by(Caller::BARREL),
         value(b"rate", 1),
     ];
     let second = [held(1), held(2)].concat();
@@ -50,7 +50,9 @@ fn moves() -> Vec<Named> {
     let (empty, zeros) = (|| vec![0xFF; BANK], || vec![0; BANK]);
     let on = |banks: Vec<Vec<u8>>| Run::new(banks.concat(), full_and_more());
     let full = [0, 1, 2, 3].map(|i| put(b"k", &[i; BANK - 74 - RECORD - 2], 0));
-    let round = full.iter().flat_map(|put| [put.clone(), commit()]);
+    let callers = [Caller::CLOCK, Caller::BARREL].into_iter().cycle();
+    let round =
+        full.iter().zip(callers).flat_map(|(put, caller)| [put.clone(), commit().by(caller)]);
     let three = [unlimited(held(7)), held(5), held(6)].concat();
     let whole_too = [full_and_more(), vec![whole(1)]].concat();
     vec![

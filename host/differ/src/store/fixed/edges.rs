@@ -2,7 +2,7 @@
 
 use image::{Header, Record, BANK};
 
-use crate::store::lent::call::{Call, What};
+use crate::store::lent::call::{Call, Caller, What};
 use crate::store::run::Run;
 
 /// An image to make: whole banks, and bytes more or less.
@@ -37,7 +37,7 @@ impl Edge {
         }
         let lookup = Call::new(What::Lookup, b"rate", 1);
         let inserts = [Call::insert(b"rate", b"x", 1), Call::barrel(b"rate", &[b'x'; 513], 1)];
-        let commits = [Call::commit(BANK), Call::careful(BANK)];
+        let commits = [Call::commit(BANK), Call::careful(BANK).by(Caller::BARREL)];
         let whole = Call::whole(self.banks * BANK);
         let calls = [lookup.clone()].into_iter().chain(inserts).chain([lookup, Call::figures()]);
         let mut run = Run::new(image, calls.chain(commits).chain([whole]).collect());

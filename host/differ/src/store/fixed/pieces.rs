@@ -40,6 +40,13 @@ pub fn unlimited(mut bank: Vec<u8>) -> Vec<u8> {
     bank
 }
 
+/// A bank of this size and generation with `rate`, and without limits.
+pub fn sized(size: usize, generation: u32) -> Vec<u8> {
+    let mut bank = unlimited(held(generation));
+    put_number(&mut bank, 4, size as u32);
+    bank
+}
+
 /// A value under `k` that leaves no byte of the bank beside `rate`, and so many bytes more.
 pub fn fill_and(more: usize) -> Call {
     put(b"k", &vec![0x41; BANK - 74 - RECORD - 2 + more], 0)

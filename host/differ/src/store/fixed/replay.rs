@@ -6,9 +6,9 @@ use std::fmt::Write;
 use image::BANK;
 
 use super::pieces::Named;
-use crate::store::lent::call::{Answer, Call, Manner, Way, What};
+use crate::store::lent::call::{Answer, Call, Caller, Manner, Way, What};
+use crate::store::lent::state::Tallies;
 use crate::store::run::domain::within;
-use crate::store::run::flash::erase;
 use crate::store::run::Run;
 use crate::store::rust::Rust;
 
@@ -18,9 +18,9 @@ const HEAD: &str = "\
 # random number in it; `make test` makes it again and compares. Only calls that the Rust answers
 # are in it: it has no work area, no state and no refusals but those of an image and of a commit
 # (9, 10, 12). State and work area are those that its records amount to (header, records as
-# written, 0xFF behind them), the tally is the count of its erase requests. A careful commit is
-# asked of a copy of its store where it refuses with 12, since it has moved by then. A barrel
-# insert is asked of it as an insert.
+# written, 0xFF behind them). Who commits it is not told: a tally is the count of its erase
+# requests in the commits of one caller. A careful commit is asked of a copy of its store where it
+# refuses with 12, since it has moved by then. A barrel insert is asked of it as an insert.
 #
 # A line is a letter and fields, one space between. Numbers are decimal; bytes and checksums
 # (CRC-32, eight digits) are hexadecimal, `-` for no bytes. A line with # is for the reader.
@@ -35,12 +35,14 @@ const HEAD: &str = "\
 #   V TYPE KEY LENGTH CRC               the value itself
 #   F NUMBER SYSTEM COMMON COUNT        what the active bank's records come to: live system ones
 #                      and live common ones in bytes, and how many there are, dead ones too
-#   C NUMBER ERASE AT OFFSET LENGTH CRC commit: ERASE is 1 where the bank at AT is to be erased,
-#                      else both are 0; the checksum is of the bytes to write
-#   K NUMBER ERASE AT OFFSET LENGTH CRC careful commit, as above; one that is refused asks for
-#                      nothing and changes nothing
+#   C CALLER NUMBER ERASE AT OFFSET LENGTH CRC  commit: CALLER is 0 for the clock, 1 for the
+#                      barrel; ERASE is 1 where the bank at AT is to be erased, else both are 0; the
+#                      checksum is of the bytes to write
+#   K CALLER NUMBER ERASE AT OFFSET LENGTH CRC  careful commit, as above; one that is refused asks
+#                      for nothing and changes nothing
 #   A NUMBER LENGTH CRC                 the whole image, and the checksum of its bytes
-#   S N ACTIVE TALLY   the state after an opening, an edit or a commit, and for each bank KIND
+#   S N ACTIVE CLOCK BARREL TOTAL       the state after an opening, an edit or a commit: both
+#                      tallies and the total, which is worked out of them; then for each bank KIND
 #                      (0 Empty, 1 Invalid, 2 Valid), TOTAL, USABLE
 #   W CRC              the work area after it, N times 131,072 bytes
 ";
@@ -77,10 +79,10 @@ fn answers(run: &Run) -> Result<String, String> {
     let Some(mut rust) = Rust::open(&run.image)? else {
         // The Rust has one word for both: an image without a bank has no Valid one.
         let number = if run.image.len() < BANK { 1 } else { 4 };
-        return Ok(format!("O {number}\nS 0 0 0\n"));
+        return Ok(format!("O {number}\nS 0 0 0 0 0\n"));
     };
-    let mut tally = 0;
-    let mut out = format!("O 0\n{}", left(&rust, tally)?);
+    let mut tallies = Tallies::default();
+    let mut out = format!("O 0\n{}", left(&rust, tallies)?);
     let mut book = run.opened().map_err(|number| format!("by 01 {number}"))?;
     for call in &run.calls {
         let said = book.answer(call);
@@ -88,10 +90,10 @@ fn answers(run: &Run) -> Result<String, String> {
             return Err(format!("{call}: not in 01's domain"));
         }
         let answer = rust.answer(call)?;
-        tally += u32::from(erase(&answer).is_some());
+        call.erases(&answer).into_iter().for_each(|caller| tallies.count(caller));
         out.push_str(&line(call, &answer)?);
         if matches!(answer, Answer::Number(_) | Answer::Commit(..)) {
-            out.push_str(&left(&rust, tally)?);
+            out.push_str(&left(&rust, tallies)?);
         }
     }
     Ok(out)
@@ -116,10 +118,11 @@ fn line(call: &Call, answer: &Answer) -> Result<String, String> {
         (_, Answer::Figures(number, [system, common, count])) => {
             format!("F {number} {system} {common} {count}\n")
         }
-        (What::Commit(way, _), Answer::Commit(number, [asked, at, offset, length], out)) => {
+        (What::Commit(way, Caller(caller), _), Answer::Commit(number, requests, out)) => {
             let letter = if *way == Way::Careful { "K" } else { "C" };
+            let [asked, at, offset, length] = requests;
             let crc = crc32fast::hash(&out[..*length as usize]);
-            format!("{letter} {number} {asked} {at} {offset} {length} {crc:08X}\n")
+            format!("{letter} {caller} {number} {asked} {at} {offset} {length} {crc:08X}\n")
         }
         (_, Answer::Whole(number, length, out)) => {
             let crc = crc32fast::hash(&out[..*length as usize]);
@@ -130,10 +133,10 @@ fn line(call: &Call, answer: &Answer) -> Result<String, String> {
 }
 
 /// State and work area after an opening, an edit or a commit.
-fn left(rust: &Rust, tally: u32) -> Result<String, String> {
-    let book = rust.book(tally)?;
-    let state = book.state();
-    let mut out = format!("S {} {} {}", state.n, state.active, state.tally);
+fn left(rust: &Rust, tallies: Tallies) -> Result<String, String> {
+    let book = rust.book(tallies)?;
+    let (state, [clock, barrel, total]) = (book.state(), tallies.told());
+    let mut out = format!("S {} {} {clock} {barrel} {total}", state.n, state.active);
     for entry in &state.entries[..state.n as usize] {
         let _ = write!(out, " {} {} {}", entry.kind, entry.total, entry.usable);
     }

@@ -1,6 +1,6 @@
 //! The calls of a run, and what is answered to them.
 
-use std::fmt::{self, Display, Formatter};
+mod words;
 
 use image::hex;
 
@@ -17,7 +17,7 @@ pub const BARREL: &str = "barrel inserts";
 #[derive(Clone, Debug, PartialEq)]
 pub struct Call {
     pub what: What,
-    /// Of the variable; none in the figures, a commit or a whole image.
+    /// Of the variable; none in the figures, a commit, a whole image or the tallies.
     pub key: Vec<u8>,
     /// 0 for Common, any other number for System.
     pub typ: u32,
@@ -33,9 +33,10 @@ pub enum What {
     Value(usize),
     Figures,
     /// With the room for the output.
-    Commit(Way, usize),
+    Commit(Way, Caller, usize),
     /// The same.
     Whole(usize),
+    Tally,
 }
 
 /// Which insert it is.
@@ -56,6 +57,15 @@ pub enum Way {
     Careful,
 }
 
+/// Who commits, as N7 says: 0 is the clock, any other number the barrel.
+#[derive(Clone, Copy, Debug, Eq, PartialEq)]
+pub struct Caller(pub u32);
+
+impl Caller {
+    pub const CLOCK: Caller = Caller(0);
+    pub const BARREL: Caller = Caller(1);
+}
+
 impl What {
     /// What its calls are called.
     pub fn name(&self) -> &'static str {
@@ -66,9 +76,10 @@ impl What {
             What::Lookup => "lookups",
             What::Value(_) => "values",
             What::Figures => "figures",
-            What::Commit(Way::Old, _) => "commits",
-            What::Commit(Way::Careful, _) => CAREFUL,
+            What::Commit(Way::Old, ..) => "commits",
+            What::Commit(Way::Careful, ..) => CAREFUL,
             What::Whole(_) => "whole images",
+            What::Tally => "tallies",
         }
     }
 }
@@ -88,6 +99,8 @@ pub enum Answer {
     Commit(u32, Asked, Vec<u8>),
     /// Of a whole image: the number, the length, the output after the call.
     Whole(u32, u64, Vec<u8>),
+    /// Of the tallies: the number; the clock's, the barrel's and the total.
+    Tally(u32, [u64; 3]),
 }
 
 impl Call {
@@ -108,16 +121,30 @@ impl Call {
         Call::new(What::Figures, b"", 0)
     }
 
+    /// The clock's.
     pub fn commit(room: usize) -> Self {
-        Call::new(What::Commit(Way::Old, room), b"", 0)
+        Call::new(What::Commit(Way::Old, Caller::CLOCK, room), b"", 0)
     }
 
+    /// The same.
     pub fn careful(room: usize) -> Self {
-        Call::new(What::Commit(Way::Careful, room), b"", 0)
+        Call::new(What::Commit(Way::Careful, Caller::CLOCK, room), b"", 0)
+    }
+
+    /// The same commit of another caller.
+    pub fn by(mut self, other: Caller) -> Self {
+        if let What::Commit(_, caller, _) = &mut self.what {
+            *caller = other;
+        }
+        self
     }
 
     pub fn whole(room: usize) -> Self {
         Call::new(What::Whole(room), b"", 0)
+    }
+
+    pub fn tally() -> Self {
+        Call::new(What::Tally, b"", 0)
     }
 
     /// Neither a value nor anything else was found, or the call was refused.
@@ -127,16 +154,25 @@ impl Call {
             What::Lookup => Answer::Lookup(number, [0; 3]),
             What::Value(room) => Answer::Value(0, vec![ROOM; room]),
             What::Figures => Answer::Figures(number, [0; 3]),
-            What::Commit(_, room) => Answer::Commit(number, NO_REQUEST, vec![ROOM; room]),
+            What::Commit(.., room) => Answer::Commit(number, NO_REQUEST, vec![ROOM; room]),
             What::Whole(room) => Answer::Whole(number, 0, vec![ROOM; room]),
+            What::Tally => Answer::Tally(number, [0; 3]),
         }
     }
 
     /// State or work area may be new after this answer.
     pub fn changes(&self, answer: &Answer) -> bool {
         match (&self.what, answer) {
-            (What::Commit(Way::Careful, _), Answer::Commit(number, ..)) => *number == 0,
+            (What::Commit(Way::Careful, ..), Answer::Commit(number, ..)) => *number == 0,
             _ => *answer == Answer::Number(0) || answer.requests().is_some(),
+        }
+    }
+
+    /// Who commits, where this answer asks for an erase.
+    pub fn erases(&self, answer: &Answer) -> Option<Caller> {
+        match (&self.what, answer.requests()) {
+            (What::Commit(_, caller, _), Some([1, ..])) => Some(*caller),
+            _ => None,
         }
     }
 
@@ -203,47 +239,6 @@ pub fn parting(said: &Answer, has: &Answer) -> String {
     format!("\n  from {at} on, 01: {said}, port: {has}")
 }
 
-impl Display for Call {
-    fn fmt(&self, f: &mut Formatter) -> fmt::Result {
-        match &self.what {
-            What::Commit(way, room) => {
-                let careful = if *way == Way::Careful { "careful " } else { "" };
-                return write!(f, "{careful}commit with room for {room}");
-            }
-            What::Whole(room) => return write!(f, "whole image with room for {room}"),
-            What::Figures => return write!(f, "figures"),
-            What::Insert(Manner::Plain, value) => write!(f, "insert of {}", hex(value))?,
-            What::Insert(Manner::Barrel, value) => write!(f, "barrel insert of {}", hex(value))?,
-            What::Remove => write!(f, "remove")?,
-            What::Lookup => write!(f, "lookup")?,
-            What::Value(room) => write!(f, "value with room for {room}")?,
-        }
-        write!(f, ", key {}, type {}", hex(&self.key), self.typ)
-    }
-}
-
-impl Display for Answer {
-    fn fmt(&self, f: &mut Formatter) -> fmt::Result {
-        match self {
-            Answer::Number(number) => write!(f, "{number}"),
-            Answer::Lookup(number, [found, place, length]) => {
-                write!(f, "{number}, found {found}, place {place}, length {length}")
-            }
-            Answer::Value(length, out) => write!(f, "length {length}, room {}", hex(out)),
-            Answer::Figures(number, [system, common, count]) => {
-                write!(f, "{number}, system {system}, common {common}, {count} records")
-            }
-            Answer::Commit(number, [asked, at, offset, length], out) => {
-                write!(f, "{number}, erase {asked} at {at}, write at {offset}, ")?;
-                write!(f, "length {length}, output {}", hex(out))
-            }
-            Answer::Whole(number, length, out) => {
-                write!(f, "{number}, length {length}, output {}", hex(out))
-            }
-        }
-    }
-}
-
 #[cfg(test)]
 mod tests {
     use super::*;
@@ -284,16 +279,5 @@ mod tests {
         assert_eq!(over, careful.refused(12));
         assert!(old.changes(&over) && !careful.changes(&over));
         assert!(careful.changes(&Answer::Commit(0, NO_REQUEST, vec![])));
-    }
-
-    #[test]
-    fn calls_are_printed() {
-        let text = Call::insert(b"", &[1; 40], 9).to_string();
-        assert!(text.starts_with("insert of 0101"), "{text}");
-        assert!(text.ends_with(".. of 40 bytes, key -, type 9"), "{text}");
-        let text = Call::barrel(b"k", &[1], 0).to_string();
-        assert_eq!(text, "barrel insert of 01, key 6b, type 0");
-        let commits = [Call::commit(7), Call::careful(7)].map(|call| call.to_string());
-        assert_eq!(commits, ["commit with room for 7", "careful commit with room for 7"]);
     }
 }

@@ -1,6 +1,6 @@
 //! The port's calls on lent buffers, and what they are to leave alone.
 
-use super::call::{Answer, Call, Manner, Way, What, ROOM};
+use super::call::{Answer, Call, Caller, Manner, Way, What, ROOM};
 use crate::partition::cause::{compare_all, Causes, PortCause};
 
 /// Bytes before and after a buffer that nobody lent.
@@ -142,7 +142,11 @@ impl Lent {
                 let (number, figures) = with_numbers(figures)?;
                 Answer::Figures(number, figures)
             }
-            What::Value(room) | What::Commit(_, room) | What::Whole(room) => {
+            What::Tally => {
+                let (number, tally) = with_numbers(|out| feqyondil::lent::tally(state, out))?;
+                Answer::Tally(number, tally)
+            }
+            What::Value(room) | What::Commit(.., room) | What::Whole(room) => {
                 self.with_room(call, &key, *room)?
             }
         };
@@ -155,12 +159,13 @@ impl Lent {
         let (state, work) = (self.state.slice_mut(), self.work.slice_mut());
         let out = lent.slice_mut();
         let mut answer = match call.what {
-            What::Commit(way, _) => {
+            What::Commit(way, Caller(caller), _) => {
                 let commit = match way {
                     Way::Old => feqyondil::lent::commit,
                     Way::Careful => feqyondil::lent::careful_commit,
                 };
-                let (number, asked) = with_numbers(|asked| commit(state, work, out, asked))?;
+                let commit = |asked: &mut _| commit(state, work, out, caller, asked);
+                let (number, asked) = with_numbers(commit)?;
                 Answer::Commit(number, asked, Vec::new())
             }
             What::Whole(_) => {

@@ -25,6 +25,12 @@ pub const ABOUT_512: [(usize, &str); 3] = [
 ];
 pub const WITHOUT_ROOM: &str = "barrel inserts with 15 and without room";
 pub const ERASES: &str = "erase requests";
+/// Those in the clock's commits and in the barrel's, and runs with some in both.
+pub const BY_CALLER: [&str; 2] = ["erase requests by the clock", "erase requests by the barrel"];
+pub const BY_BOTH: &str = "runs with erase requests by both";
+/// Those that a tally, or the total, does not count any more.
+pub const PAST_STOP: &str = "erase requests past a tally's stop";
+pub const PAST_TOTAL: &str = "erase requests past the total's stop";
 /// Of erase requests for one bank, that 01's bound asks something of, and N4's.
 pub const PAIRS: &str = "pairs of requests";
 pub const ACCEPTED_PAIRS: &str = "pairs by accepted commits";
@@ -109,9 +115,10 @@ impl Counts {
                 self.add(ERASES, erases);
                 number
             }
-            Answer::Number(number) | Answer::Figures(number, _) | Answer::Whole(number, ..) => {
-                number
-            }
+            Answer::Number(number)
+            | Answer::Figures(number, _)
+            | Answer::Whole(number, ..)
+            | Answer::Tally(number, _) => number,
         };
         self.numbers.add(number, 1);
         self.kinds.add((call.what.name(), number), 1);

@@ -1,15 +1,18 @@
 //! What demand 3 says of the flash and of its wear, looked at as a run goes. By 01 no old commit is
 //! refused with 12, and L is over all commits; by N4 of the change requests (02) every commit is
 //! careful, and L is over the accepted ones. Both bounds are looked at in every run of 01's, since
-//! N4's is proved there too. By N5 barrel inserts that are accepted add to the bytes of both.
+//! N4's is proved there too. By N5 barrel inserts that are accepted add to the bytes of both. By N7
+//! each caller's tally is the number of erase requests in its own commits.
 
 use image::RECORD;
 
+use super::callers::Erases;
 use super::counts::{Counts, ACCEPTED_PAIRS, AFTER_12, PAIRS, REOPENED, RUST_REOPENED};
 use super::flash::{erase, reopen, reopen_rust, Flash};
 use super::wear::{Commit, Over, Wear};
 use crate::store::book::{Bank, Book};
 use crate::store::lent::call::{Answer, Call, Way, What};
+use crate::store::lent::same::same_tally;
 use crate::store::lent::state::State;
 use crate::store::lent::Lent;
 
@@ -18,7 +21,7 @@ pub struct Watch {
     port: Flash,
     rust: Flash,
     wears: [Wear; 2],
-    requests: u32,
+    pub erases: Erases,
     /// The last commit was a careful one that was refused with 12.
     over: bool,
     /// An old commit was refused with 12: the demand speaks of no such run.
@@ -31,7 +34,7 @@ impl Watch {
             port: Flash::new(image),
             rust: Flash::new(image),
             wears: [Over::All, Over::Accepted].map(|over| Wear::new(n, over)),
-            requests: 0,
+            erases: Erases::default(),
             over: false,
             ended: false,
         }
@@ -46,13 +49,14 @@ impl Watch {
         after: (&mut Book, &mut Lent),
         counts: &mut Counts,
     ) -> Result<(), String> {
+        self.counted(call, port, after.1, counts)?;
         match &call.what {
             What::Insert(_, value) if call.changes(port) => {
                 let size = RECORD + call.key.len() + 1 + value.len();
                 self.wears.iter_mut().for_each(|wear| wear.inserted(size));
                 Ok(())
             }
-            What::Commit(way, _) => {
+            What::Commit(way, ..) => {
                 let over = matches!(port, Answer::Commit(12, ..));
                 self.ended |= over && *way == Way::Old;
                 counts.add(AFTER_12, (self.over && port.written().is_some()).into());
@@ -70,7 +74,6 @@ impl Watch {
         (book, lent): (&mut Book, &mut Lent),
         counts: &mut Counts,
     ) -> Result<(), String> {
-        self.counted(port, lent)?;
         let Some(bank) = book.active_bank().filter(|_| !self.ended) else {
             return Ok(());
         };
@@ -79,7 +82,7 @@ impl Watch {
         if let Some(rust) = rust {
             self.rust.carry_out(rust)?;
         }
-        if self.requests == 0 || port.written().is_none() {
+        if !self.erases.any() || port.written().is_none() {
             return Ok(());
         }
         counts.add(REOPENED, 1);
@@ -108,15 +111,22 @@ impl Watch {
         Ok(())
     }
 
-    /// The state's tally is the count of the erase requests answered.
-    fn counted(&mut self, port: &Answer, lent: &Lent) -> Result<(), String> {
-        let asked = u32::from(erase(port).is_some());
-        self.requests = self.requests.saturating_add(asked);
-        let told = State::read(lent.state.slice()).map(|state| state.tally);
-        if told == Some(self.requests) {
-            return Ok(());
+    /// After any call: each tally is the count of the erase requests answered to its caller, and the
+    /// total that of all.
+    fn counted(
+        &mut self,
+        call: &Call,
+        port: &Answer,
+        lent: &mut Lent,
+        counts: &mut Counts,
+    ) -> Result<(), String> {
+        self.erases.called(call, port, counts);
+        let requests = self.erases.told();
+        let told = State::read(lent.state.slice()).map(|state| state.tallies);
+        let [clock, barrel, _] = requests;
+        if told.map(|told| [told.clock, told.barrel].map(u64::from)) != Some([clock, barrel]) {
+            return Err(format!("\n  {requests:?} erase requests, {told:?}"));
         }
-        let requests = self.requests;
-        Err(format!("\n  {requests} erase requests, tally {told:?}"))
+        same_tally(&Answer::Tally(0, requests), lent)
     }
 }

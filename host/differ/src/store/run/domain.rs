@@ -34,5 +34,6 @@ pub fn within(book: &Book, said: &Answer) -> bool {
         Answer::Value(..) => bank.is_some(),
         Answer::Commit(12, ..) => bank.is_some_and(|b| b.header.size as usize == BANK),
         Answer::Commit(number, ..) => matches!(number, 0 | 9 | 10),
+        Answer::Tally(..) => false,
     }
 }

@@ -86,7 +86,7 @@ pub fn reopen_rust(flash: &Flash, book: &Book, again: &Book) -> Result<bool, Str
         return Ok(false);
     }
     let mut rust = Rust::reopen(&flash.bytes, again)?;
-    let has = rust.book(0)?;
+    let has = rust.book(book.tallies)?;
     same_work(&book.slots[book.active].part(), &has.slots[has.active].part(), "Rust")?;
     for call in lookups(book) {
         let (said, then) = (book.lookup(&call), rust.answer(&call)?);

@@ -4,7 +4,7 @@ use image::BANK;
 
 use crate::store::book::{Book, PART};
 use crate::store::lent::call::Call;
-use crate::store::lent::state::STATE;
+use crate::store::lent::state::{Tallies, STATE};
 use crate::store::lent::Standing;
 
 #[derive(Clone, Debug, PartialEq)]
@@ -16,11 +16,20 @@ pub struct Run {
     pub state: usize,
     /// Bytes lent for the work area, over what the image needs.
     pub spare: isize,
+    /// What someone puts into the opened state.
+    pub tallies: Tallies,
 }
 
 impl Run {
     pub fn new(image: Vec<u8>, calls: Vec<Call>) -> Self {
-        Run { image, calls, standing: Standing::Guarded(0), state: STATE, spare: 0 }
+        Run {
+            image,
+            calls,
+            standing: Standing::Guarded(0),
+            state: STATE,
+            spare: 0,
+            tallies: Tallies::default(),
+        }
     }
 
     pub fn work(&self) -> usize {

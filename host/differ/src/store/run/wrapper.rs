@@ -1,14 +1,15 @@
 //! `Store`: the same answers in its own types.
 
-use feqyondil::{Kind, NotCommitted, Refusal, Store, VarType};
+use feqyondil::{Kind, NotCommitted, Refusal, Store, Tally, VarType};
 
 use super::input::Run;
 use crate::store::book::Book;
-use crate::store::lent::call::{Answer, Call, Manner, Way, What, ROOM};
+use crate::store::lent::call::{Answer, Call, Caller, Manner, Way, What, ROOM};
 use crate::store::lent::same::{same_state, same_work};
-use crate::store::lent::state::{Entry, State, EMPTY, ENTRIES, INVALID, VALID};
+use crate::store::lent::state::{Entry, State, Tallies, EMPTY, ENTRIES, INVALID, VALID};
 
-/// Runs it by `Store` and holds it against 01, which the calls behind it are held against too.
+/// Runs it by `Store` and holds it against 01, which the calls behind it are held against too. Behind
+/// each call the tallies are told.
 pub fn compare(run: &Run) -> Result<(), String> {
     let before = vec![ROOM; run.work()];
     let mut work = before.clone();
@@ -24,7 +25,8 @@ pub fn compare(run: &Run) -> Result<(), String> {
         }
     };
     same_told(&book.state(), &store)?;
-    for call in &run.calls {
+    let tally = Call::tally();
+    for call in run.calls.iter().flat_map(|call| [call, &tally]) {
         let (said, answer) = (book.answer(call), ask(&mut store, call));
         if said != answer {
             return Err(format!("{call}\n  01:      {said}\n  `Store`: {answer}"));
@@ -39,10 +41,11 @@ pub fn compare(run: &Run) -> Result<(), String> {
 
 /// What `Store` tells of its state, number by number; of a bank behind the last, nothing.
 fn same_told(said: &State, store: &Store) -> Result<(), String> {
+    let Tally { clock, barrel, .. } = store.tally();
     let mut told = State {
         n: store.banks() as u32,
         active: store.active() as u32,
-        tally: store.tally(),
+        tallies: Tallies { clock, barrel },
         ..State::default()
     };
     for i in 0..=ENTRIES {
@@ -95,15 +98,20 @@ fn ask(store: &mut Store, call: &Call) -> Answer {
             }
             Err(refusal) => call.refused(refusal.number()),
         },
-        What::Commit(way, room) => committed(store, *way, vec![ROOM; *room]),
+        What::Commit(way, caller, room) => committed(store, *way, *caller, vec![ROOM; *room]),
         What::Whole(room) => whole(store, vec![ROOM; *room]),
+        What::Tally => tally(store),
     }
 }
 
-fn committed(store: &mut Store, way: Way, mut out: Vec<u8>) -> Answer {
+fn committed(store: &mut Store, way: Way, caller: Caller, mut out: Vec<u8>) -> Answer {
+    let caller = match caller {
+        Caller::CLOCK => feqyondil::Caller::Clock,
+        _ => feqyondil::Caller::Barrel,
+    };
     let done = match way {
-        Way::Old => store.commit(&mut out),
-        Way::Careful => store.careful_commit(&mut out).map_err(NotCommitted::Refused),
+        Way::Old => store.commit(caller, &mut out),
+        Way::Careful => store.careful_commit(caller, &mut out).map_err(NotCommitted::Refused),
     };
     let (number, erase, offset, bytes) = match done {
         Ok(done) => (0, done.erase, done.offset, done.bytes.to_vec()),
@@ -125,6 +133,11 @@ fn whole(store: &Store, mut out: Vec<u8>) -> Answer {
         Ok(bytes) => Answer::Whole(0, bytes.len() as u64, over(out, &bytes)),
         Err(refusal) => Answer::Whole(refusal.number(), 0, out),
     }
+}
+
+fn tally(store: &Store) -> Answer {
+    let Tally { clock, barrel, total } = store.tally();
+    Answer::Tally(0, [clock, barrel, total].map(u64::from))
 }
 
 /// The output with the bytes that were handed back at its front, where they are to be already.
