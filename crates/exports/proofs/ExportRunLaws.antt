@@ -9,7 +9,6 @@ use mathlib.Core.Option.{Option, some}
 use native.Mathlib.Omega.{arith}
 use lib.ListN.{length, replicate, length-append, length-map, length-replicate}
 use lib.Dec.{leb}
-use Rattle.tally.specs.declared.Caller.{Caller}
 use Rattle.tally.specs.declared.Caller.the-variants.{Clock, Barrel}
 use Rattle.tally.specs.declared.Tally.{Tally}
 use Rattle.tally.specs.Tally.{isOwn, tallyOf, noTally, totalOf}
@@ -35,7 +34,7 @@ use Rattle.run.proofs.EachLaws.{each-none, each-more}
 use Rattle.run.proofs.Start.{starts}
 use Rattle.run.proofs.Tallies.{reading-N7}
 use Rattle.run.proofs.Demand.{reading-01, reading-N4}
-use Rattle.state_bytes.specs.State.{stateSize, stored, readState, FineEntries, FineState}
+use Rattle.state_bytes.specs.State.{stateSize, stored, readState, FineEntries, FineTally, FineState}
 use Rattle.state_bytes.proofs.StateLaws.{stored-back}
 use Rattle.exports.specs.Store.{BytesAfter, onState, exported, Tells, Calls, Start, stated, start, ExportOpens, tallyNumber, tallyFields}
 use Rattle.exports.specs.ExportRun.{ExportEvent, ExportRun, ExportKeeps, Same, AllSame, ExportClaim, ExportClaim01, ExportClaimN4, ExportClaimN7}
@@ -54,28 +53,25 @@ entries-fine (invalid ∷ ss) es f g = ((omega arith, omega arith), entries-fine
 entries-fine (valid b ∷ ss) es f g =
     ((omega (arith, f .0 .1, part-size), omega (arith, f .0 .0 .usable-high, f .0 .0 .header-fine .size-high)), entries-fine ss es (f .1) g)
 
-abbrev TallyFits : Tally → Type 0
-TallyFits t = (caller : Caller) → tallyOf caller t < 4294967296
-
-laid-fine : (b : Book) (tally : Tally) → FineBook b → TallyFits tally → FineState (layState b tally)
+laid-fine : (b : Book) (tally : Tally) → FineBook b → FineTally tally → FineState (layState b tally)
 unfolding layTable
 laid-fine b tally f h =
     record {
       n-fits = omega (arith, f .high);
       active-fits = omega (arith, f .inside, f .high);
-      tally-fits = h;
+      tally-fine = h;
       banks-long =
           length-append (map entryOf (b .slots)) (replicate (16 - length (b .slots)) (entry Empty 0 0))
           ∙ omega (arith, length-map (b .slots) entryOf, length-replicate (16 - length (b .slots)) (entry Empty 0 0), f .long, f .high);
       banks-fine = entries-fine (b .slots) (replicate (16 - length (b .slots)) (entry Empty 0 0)) (f .slots-fine) (free-fine (16 - length (b .slots)));
     }
 
-none-fits : TallyFits noTally
-none-fits Clock = omega arith
-none-fits Barrel = omega arith
+none-fine : FineTally noTally
+none-fine Clock = omega arith
+none-fine Barrel = omega arith
 
-tallied-fits : (c : Call) (a : Answer) (t : Tally) → TallyFits t → TallyFits (tallied c a t)
-tallied-fits c a t h caller =
+tallied-fine : (c : Call) (a : Answer) (t : Tally) → FineTally t → FineTally (tallied c a t)
+tallied-fine c a t h caller =
     subst (λ (k : ℕ). k < 4294967296) (sym (counted-tally caller (committer c) (erase a) t))
     (counted-fits (isOwn caller (committer c)) (erase a) (tallyOf caller t) (h caller))
 
@@ -85,7 +81,7 @@ record StateAt (bs w : List ℕ) (s : Nvram) : Type 0 where
   book : Book
   viewed : view s w ≡ some book
   fine : FineBook book
-  tally : TallyFits (s .tally)
+  tally : FineTally (s .tally)
 
 -- a rule that a call keeps with what its function returned, it keeps with its answer's number
 abbrev Carries : (Call → ℕ → Type 0) → Type 0
@@ -134,7 +130,7 @@ module _ (bs w : List ℕ) (s : Nvram) (a : StateAt bs w s) (e : ExportEvent) (y
       ∙ stored-back (call c s w .state) bs
       (subst FineState (sym laid)
       (laid-fine (step (a .book) c .laid) (tallied c (step (a .book) c .answer) (s .tally)) (step-fine (a .book) c y (a .fine))
-      (tallied-fits c (step (a .book) c .answer) (s .tally) (a .tally))))
+      (tallied-fine c (step (a .book) c .answer) (s .tally) (a .tally))))
 
   next : StateAt (e .state) (e .work) (event .state)
   next =
@@ -143,7 +139,7 @@ module _ (bs w : List ℕ) (s : Nvram) (a : StateAt bs w s) (e : ExportEvent) (y
         book = step (a .book) c .laid;
         viewed = kept .viewed;
         fine = step-fine (a .book) c y (a .fine);
-        tally = subst TallyFits (sym (does-tally c s w (event .answer) (event .out) (event .state) (e .work) does)) (tallied-fits c (event .answer) (s .tally) (a .tally));
+        tally = subst FineTally (sym (does-tally c s w (event .answer) (event .out) (event .state) (e .work) does)) (tallied-fine c (event .answer) (s .tally) (a .tally));
       }
 
   abbrev Told : BytesAfter → Type 0
@@ -201,9 +197,9 @@ exported-run Keeps Holds carries claim image bs w bs′ w′ es y o r h =
     let t = starts image w (x .state) w′ opens in
     let s : x .state ≡ layState (run.openedBook image) noTally = ap (λ (z : Opened). begun z w .state) (t .opens) in
     let read : readState bs′ ≡ some (x .state) =
-    ap readState (b .1) ∙ stored-back (x .state) bs (subst FineState (sym s) (laid-fine (run.openedBook image) noTally (t .fine) none-fits)) in
+    ap readState (b .1) ∙ stored-back (x .state) bs (subst FineState (sym s) (laid-fine (run.openedBook image) noTally (t .fine) none-fine)) in
     let a : StateAt bs′ w′ (x .state) =
-    record { read = read; book = run.openedBook image; viewed = t .viewed; fine = t .fine; tally = subst TallyFits (sym (t .tally)) none-fits } in
+    record { read = read; book = run.openedBook image; viewed = t .viewed; fine = t .fine; tally = subst FineTally (sym (t .tally)) none-fine } in
     let m = follow Keeps carries bs′ w′ (x .state) es a r h in
     record {
       state = x .state;

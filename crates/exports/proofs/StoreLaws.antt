@@ -1,7 +1,6 @@
 -- The contracts of the exported calls, from those of the calls: 6 where the bytes hold no state (`calls-6`), else by the state that was loaded
--- (`calls`, `keeps`, `exported-remove`); of the exported opening (`opens-6`, `opens`), and of
--- the tallies (`no-tally`, `tally-read`). To be read: a call that is refused leaves every byte
--- (`exported-refused`), so an edit and a careful commit (`edit-refused`, `careful-refused`).
+-- (`calls`, `keeps`, `exported-remove`); of the exported opening (`opens-6`, `opens`); and of the tallies (`no-tally`, `tally-read`). To be read: a
+-- call that is refused leaves every byte (`exported-refused`), so an edit and a careful commit (`edit-refused`, `careful-refused`).
 use Prim.Native.Nat.{ℕ, _≤_, _<_}
 use mathlib.Core.Path.{_≡_, refl, sym, ap, _∙_, subst}
 use mathlib.Core.List.{List, [], _∷_}

@@ -126,7 +126,7 @@ state-back s rest f =
     let es = s .banks in
     let head = headBytes s in
     let q = entriesBytes es ++ rest in
-    let t = four-back (s .n) (s .active) (s .tally .clock) (s .tally .barrel) q (f .n-fits) (f .active-fits) (f .tally-fits Clock) (f .tally-fits Barrel) in
+    let t = four-back (s .n) (s .active) (s .tally .clock) (s .tally .barrel) q (f .n-fits) (f .active-fits) (f .tally-fine Clock) (f .tally-fine Barrel) in
     let room : stateSize ≤ length (head ++ q) =
     omega
     (arith, length-append head q, length-append (entriesBytes es) rest, length-four (s .n) (s .active) (s .tally .clock) (s .tally .barrel), length-entries es, f .banks-long) in
@@ -158,23 +158,22 @@ read-is bs s e = go (leb stateSize (length bs)) (kindsKnown 16 (drop stateHead b
     go true false p q e = clash cc
     go false b p q e = clash cc
 
-three-split : (bs : List ℕ) → Bytes bs → 12 ≤ length bs → three (u32At bs 0) (u32At bs 4) (u32At bs 8) ++ drop 12 bs ≡ bs
+-- three numbers from a place on
+three-from : (bs : List ℕ) (at : ℕ) → Bytes bs → at + 12 ≤ length bs
+    → drop at bs ≡ three (u32At bs at) (u32At bs (at + 4)) (u32At bs (at + 8)) ++ drop (at + 12) bs
 unfolding le32
-three-split bs k h =
-    sym
-    (u32-split bs 0 k (omega arith)
-    ∙ ap (λ (r : List ℕ). le32 (u32At bs 0) ++ r)
-    (u32-split bs 4 k (omega arith) ∙ ap (λ (r : List ℕ). le32 (u32At bs 4) ++ r) (u32-split bs 8 k (omega arith))))
+three-from bs at k h =
+    let e : at + 4 + 4 ≡ at + 8 = omega arith in
+    let f : at + 8 + 4 ≡ at + 12 = omega arith in
+    u32-split bs at k (omega arith)
+    ∙ ap (λ (r : List ℕ). le32 (u32At bs at) ++ r)
+    (u32-split bs (at + 4) k (omega arith)
+    ∙ ap (λ (r : List ℕ). le32 (u32At bs (at + 4)) ++ r)
+    (ap (λ (n : ℕ). drop n bs) e ∙ u32-split bs (at + 8) k (omega arith) ∙ ap (λ (n : ℕ). le32 (u32At bs (at + 8)) ++ drop n bs) f))
 
 four-split : (bs : List ℕ) → Bytes bs → stateHead ≤ length bs → four (u32At bs 0) (u32At bs 4) (u32At bs 8) (u32At bs 12) ++ drop stateHead bs ≡ bs
 unfolding le32
-four-split bs k h =
-    sym
-    (u32-split bs 0 k (omega arith)
-    ∙ ap (λ (r : List ℕ). le32 (u32At bs 0) ++ r)
-    (u32-split bs 4 k (omega arith)
-    ∙ ap (λ (r : List ℕ). le32 (u32At bs 4) ++ r)
-    (u32-split bs 8 k (omega arith) ∙ ap (λ (r : List ℕ). le32 (u32At bs 8) ++ r) (u32-split bs 12 k (omega arith)))))
+four-split bs k h = sym (u32-split bs 0 k (omega arith) ∙ ap (λ (r : List ℕ). le32 (u32At bs 0) ++ r) (three-from bs 4 k (omega arith)))
 
 kind-known : (k : ℕ) → k ≤ 2 → kindNumber (kindOf k) ≡ k
 kind-known zero h = refl
@@ -184,7 +183,7 @@ kind-known (suc (suc (suc k))) h = absurd (omega arith)
 
 entry-split : (bs : List ℕ) → Bytes bs → entrySize ≤ length bs → u32At bs 0 ≤ 2 → entryBytes (entryAt bs) ++ drop entrySize bs ≡ bs
 unfolding entryAt
-entry-split bs k h e = ap (λ (n : ℕ). three n (u32At bs 4) (u32At bs 8) ++ drop entrySize bs) (kind-known (u32At bs 0) e) ∙ three-split bs k h
+entry-split bs k h e = ap (λ (n : ℕ). three n (u32At bs 4) (u32At bs 8) ++ drop entrySize bs) (kind-known (u32At bs 0) e) ∙ sym (three-from bs 0 k h)
 
 entries-split : (n : ℕ) (bs : List ℕ) → Bytes bs → entrySize * n ≤ length bs → kindsKnown n bs ≡ true → entriesBytes (entriesAt n bs) ++ drop (entrySize * n) bs ≡ bs
 unfolding kindsKnown entriesAt entriesBytes
@@ -227,7 +226,7 @@ read-state-fine bs s k e =
     record {
       n-fits = u32-lt bs 0 k;
       active-fits = u32-lt bs 4 k;
-      tally-fits = λ caller. elim caller [ Clock ↦ u32-lt bs 8 k | Barrel ↦ u32-lt bs 12 k ];
+      tally-fine = λ caller. elim caller [ Clock ↦ u32-lt bs 8 k | Barrel ↦ u32-lt bs 12 k ];
       banks-long = length-read 16 (drop stateHead bs);
       banks-fine = read-entries-fine 16 (drop stateHead bs) (below-drop stateHead bs k);
     } in

@@ -98,9 +98,12 @@ abbrev pub FineEntries : List Entry → Type 0
 FineEntries [] = Unit {0}
 FineEntries (e ∷ es) = FineEntry e × FineEntries es
 
+abbrev pub FineTally : Tally → Type 0
+FineTally t = (caller : Caller) → tallyOf caller t < 4294967296
+
 pub record FineState (s : Nvram) : Type 0 where
   pub n-fits : s .n < 4294967296
   pub active-fits : s .active < 4294967296
-  pub tally-fits : (caller : Caller) → tallyOf caller (s .tally) < 4294967296
+  pub tally-fine : FineTally (s .tally)
   pub banks-long : length (s .banks) ≡ 16
   pub banks-fine : FineEntries (s .banks)
