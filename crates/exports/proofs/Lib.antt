@@ -1,3 +1,4 @@
 pub mod LogLaws
+pub mod RateLaws
 mod StoreLaws
 pub mod ExportRunLaws

@@ -1,3 +1,4 @@
 pub mod Numbers
+pub mod Rates
 pub mod Store
 pub mod ExportRun

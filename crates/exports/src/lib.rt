@@ -3,6 +3,7 @@ mod causes;
 mod checksum;
 mod log;
 mod partition;
+mod rates;
 mod same;
 mod store;
 mod tallies;

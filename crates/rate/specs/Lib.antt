@@ -1,0 +1,3 @@
+pub mod Rate
+pub mod Answer
+pub mod Places
