@@ -47,9 +47,9 @@ extern "C" {
 
 /*
  * Numbers of a call. All but the first refuse, and a refusal changes nothing that was lent, except
- * as feqyondil_same_settings, feqyondil_run_log_read, feqyondil_run_log_write, feqyondil_open,
- * feqyondil_tally, feqyondil_lookup, feqyondil_figures, feqyondil_careful_commit, feqyondil_commit
- * and feqyondil_whole_image say. What to do after each: docs/USING.md, 'Refusals'.
+ * as feqyondil_same_settings, feqyondil_run_log_read, feqyondil_run_log_write, the calls on rates,
+ * feqyondil_open, feqyondil_tally, feqyondil_lookup, feqyondil_figures, feqyondil_careful_commit,
+ * feqyondil_commit and feqyondil_whole_image say. What to do after each: docs/USING.md, 'Refusals'.
  */
 #define FEQYONDIL_OK 0u
 #define FEQYONDIL_IMAGE_SHORT 1u   /* the image is below 65,536 bytes */
@@ -70,6 +70,7 @@ extern "C" {
 #define FEQYONDIL_LOG_NUMBER 16u   /* a log's number is cut off, not in its shortest form or 2^32 and more */
 #define FEQYONDIL_LOG_ORDER 17u    /* a start minute is below the one before it */
 #define FEQYONDIL_LOG_LENGTH 18u   /* bytes left over, no threes, a log over 4,096 bytes, an output too short */
+#define FEQYONDIL_RATE_RANGE 19u   /* a rate's place, a sum, a difference or thirds out of range, or minus zero */
 
 /* Kinds of a bank as feqyondil_partition_parse answers them; the state's kinds are below. */
 #define FEQYONDIL_SLOT_SHORT 0u   /* too few bytes were lent */
@@ -199,6 +200,48 @@ uint32_t feqyondil_run_log_read(const uint8_t *log, size_t log_len, uint32_t *en
  */
 uint32_t feqyondil_run_log_write(const uint32_t *entries, size_t entries_len, uint8_t *log, size_t log_len,
                                  uint64_t length[1]);
+
+/*
+ * Daily rates in sixtieths: a sign, and hours, minutes, seconds and thirds, of which one is 1/60
+ * second. Hours are 0 to 23, the others 0 to 59, and minus zero does not exist. So a number of whole
+ * thirds below 5,184,000, either way, has one rate. Every number other than 0 is taken as minus; an
+ * answered sign is 0 or 1.
+ *
+ * Refusal of each call: 19 where a rate that it is lent has a place out of range or is minus zero, or
+ * where what it is to answer has no rate. The answer is zeros then, plus zero among rates: so look at
+ * the number, and do not lend one array for an answer and a rate.
+ */
+#define FEQYONDIL_RATE_SIGN 0u
+#define FEQYONDIL_RATE_HOURS 1u
+#define FEQYONDIL_RATE_MINUTES 2u
+#define FEQYONDIL_RATE_SECONDS 3u
+#define FEQYONDIL_RATE_THIRDS 4u
+#define FEQYONDIL_RATE_NUMBERS 5u           /* numbers of a rate */
+#define FEQYONDIL_RATE_THIRDS_END 5184000u  /* a rate's thirds are fewer, either way: those of 24 hours */
+
+/* Signs of a rate. */
+#define FEQYONDIL_PLUS 0u
+#define FEQYONDIL_MINUS 1u
+
+/* The sum of two rates. */
+uint32_t feqyondil_rate_add(const uint32_t a[5], const uint32_t b[5], uint32_t sum[5]);
+
+/* The first rate less the second. */
+uint32_t feqyondil_rate_subtract(const uint32_t a[5], const uint32_t b[5], uint32_t difference[5]);
+
+/* Orders as feqyondil_rate_compare answers them; 0 where it is refused. */
+#define FEQYONDIL_RATE_LESS 1u
+#define FEQYONDIL_RATE_EQUAL 2u
+#define FEQYONDIL_RATE_GREATER 3u
+
+/* Whether the first rate is less than the second, equal to it or greater: of two with minus, the longer is less. */
+uint32_t feqyondil_rate_compare(const uint32_t a[5], const uint32_t b[5], uint64_t order[1]);
+
+/* The whole thirds of a rate, below 0 where its sign is minus. */
+uint32_t feqyondil_rate_to_thirds(const uint32_t rate[5], int64_t thirds[1]);
+
+/* The rate of so many thirds: feqyondil_rate_to_thirds answers them again. */
+uint32_t feqyondil_rate_from_thirds(int64_t thirds, uint32_t rate[5]);
 
 /*
  * The store. A program lends a state and a work area to each call, as the call before left them.

@@ -3,8 +3,9 @@
  * the flash is written as the commits ask, and what is opened again has the values. What the header
  * says of null pointers, of the state's numbers, of the tallies of both callers, of what records come to, of a
  * store after a move and after 12, of the barrels' insert, of the settings of two banks, of why reading a bank
- * stopped, and of the log of winding runs is tried too.
+ * stopped, of the log of winding runs, and of daily rates is tried too.
  */
+#include "rates.h"
 #include "run_log.h"
 #include "tallies.h"
 
@@ -279,6 +280,7 @@ int main(void) {
     barrels();
     tallies();
     run_logs();
+    rates();
     nulls_of_banks();
     nulls_of_edits();
     nulls_of_flash();

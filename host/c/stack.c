@@ -18,6 +18,9 @@ static uint8_t value[1024];
 static uint32_t entries[FEQYONDIL_RUN_NUMBERS * FEQYONDIL_RUN_LOG_ENTRIES_MAX];
 static uint8_t run_log[FEQYONDIL_RUN_LOG_MAX];
 static uint32_t tables[FEQYONDIL_CRC32_TABLE_ENTRIES];
+static const uint32_t rates[2][FEQYONDIL_RATE_NUMBERS] = {{FEQYONDIL_PLUS, 0, 0, 0, 1}, {FEQYONDIL_MINUS, 1, 0, 0, 0}};
+static uint32_t rate[FEQYONDIL_RATE_NUMBERS];
+static int64_t thirds[1];
 static uint64_t numbers[8];
 static uint32_t answer;
 static ucontext_t origin, called;
@@ -61,6 +64,15 @@ static void run_log_read(void) {
     answer = feqyondil_run_log_read(run_log, numbers[0], entries, sizeof entries / sizeof entries[0], numbers);
     check(numbers[0] == FEQYONDIL_RUN_LOG_ENTRIES_MAX, "the most entries");
 }
+static void rate_add(void) { answer = feqyondil_rate_add(rates[0], rates[1], rate); }
+static void rate_subtract(void) { answer = feqyondil_rate_subtract(rates[0], rates[1], rate); }
+static void rate_compare(void) { answer = feqyondil_rate_compare(rates[0], rates[1], numbers); }
+static void rate_to_thirds(void) { answer = feqyondil_rate_to_thirds(rates[1], thirds); }
+/* Of the thirds that were answered before. */
+static void rate_from_thirds(void) {
+    answer = feqyondil_rate_from_thirds(thirds[0], rate);
+    check(memcmp(rate, rates[1], sizeof rate) == 0, "the rate of its thirds");
+}
 
 static const struct {
     const char *name;
@@ -85,6 +97,11 @@ static const struct {
     {"same_settings", same_settings},
     {"run_log_write", run_log_write},
     {"run_log_read", run_log_read},
+    {"rate_add", rate_add},
+    {"rate_subtract", rate_subtract},
+    {"rate_compare", rate_compare},
+    {"rate_to_thirds", rate_to_thirds},
+    {"rate_from_thirds", rate_from_thirds},
     {"remove", remove_key},
 };
 

@@ -9,6 +9,7 @@ mod checksum;
 mod lent;
 mod measure;
 mod partition;
+mod rate;
 mod run_log;
 mod settings;
 mod store;
@@ -41,6 +42,7 @@ fn main() {
     show("cause", cause::run);
     show("settings", settings::run);
     show("run log", run_log::run);
+    show("rate", rate::run);
     show("store", store::run);
     show("commit", store::run_commits);
 }

@@ -4,6 +4,7 @@ mod any_state;
 mod banks;
 mod checksum;
 mod cuts;
+mod rates;
 mod run_log;
 mod runs;
 mod settings;
@@ -12,6 +13,8 @@ use cuts::{GoesOn, Repeated, Single, Strikes};
 use feqyondil::bank_cause;
 
 use crate::judge::Judge;
+#[cfg(test)]
+use crate::judge::{Comparison, Counts, Mode, Numbers, Part};
 use crate::partition::lent;
 use crate::store::lent::Port;
 
@@ -23,6 +26,8 @@ pub fn all(judge: &mut Judge) -> Result<(), String> {
     judge.hold(&settings::Settings { port: settings::port, cause: bank_cause })?;
     judge.hold(&run_log::Reader { port: run_log::Port::default() })?;
     judge.hold(&run_log::Writer { port: run_log::Port::default() })?;
+    judge.hold(&rates::Rates { port: rates::PORT })?;
+    judge.hold(&rates::FromThirds { port: rates::PORT })?;
     judge.hold(&runs::Runs { port })?;
     judge.hold(&any_state::AnyState { port })?;
     judge.hold(&Strikes { port })?;
@@ -33,3 +38,12 @@ pub fn all(judge: &mut Judge) -> Result<(), String> {
 
 #[cfg(test)]
 mod planted;
+
+/// Of what is drawn for a part there is every kind, and from a quarter to three is accepted.
+#[cfg(test)]
+fn drawn<C: Comparison<Counts = Numbers>>(comparison: &C, inputs: Part<C::Input>) {
+    let counts = Judge::new(Mode::Short, 3).part(comparison, "", inputs.inputs).unwrap();
+    counts.are_met(20);
+    let (accepted, all) = (counts.get("accepted"), counts.inputs());
+    assert!(4 * accepted > all && 4 * accepted < 3 * all, "{counts}");
+}

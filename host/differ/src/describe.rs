@@ -12,12 +12,16 @@ mod list;
 mod log;
 mod pair;
 mod plan;
+mod rate;
 mod run;
 mod state;
 mod style;
 mod tallies;
 mod value;
 
+#[cfg(test)]
+pub use self::rate::rate_of;
+pub use self::rate::{thirds, thirds_of, two_rates, Rate, Rates, Thirds, ENDS, UNITS};
 pub use bank::{slot, Slot};
 pub use bytes::{content, Bytes};
 pub use call::{Call, Reach};

@@ -1,6 +1,7 @@
 //! The crate holds to include/feqyondil.h: each number that is defined there is the crate's, under
 //! the same name, and neither side has one that the other lacks.
 
+use core::cmp::Ordering;
 use std::format;
 use std::string::String;
 use std::vec::Vec;
@@ -9,6 +10,7 @@ use crate::cause;
 use crate::commit::{self, Commit};
 use crate::figures;
 use crate::partition::slot;
+use crate::rate::{order_of, rate_of};
 use crate::state::*;
 use crate::store::place;
 use crate::tally;
@@ -60,12 +62,13 @@ fn each_number_is_the_headers() {
     states(&mut defined);
     banks(&mut defined);
     causes(&mut defined);
+    rates(&mut defined);
     answers(&mut defined);
     assert_eq!(defined.0, [], "defined, and not in the crate");
 }
 
 fn refusals(defined: &mut Defined) {
-    let (from, to) = (defined.place("OK"), defined.place("LOG_LENGTH"));
+    let (from, to) = (defined.place("OK"), defined.place("RATE_RANGE"));
     let (ok, named) = (defined.0[from], &defined.0[from + 1..=to]);
     assert_eq!(Refusal::check(ok.1), Ok(()));
     let named: Vec<_> = named.iter().map(|&(name, n)| (camel(name), n)).collect();
@@ -163,6 +166,35 @@ fn causes(defined: &mut Defined) {
         ("CAUSE_END", at(0, 0), Cause::End),
     ] {
         assert_eq!(cause::told(defined.take(name), answered), own, "{name}");
+    }
+}
+
+/// Each place's number is one of its own, with either sign.
+fn rates(defined: &mut Defined) {
+    assert_eq!(RATE_NUMBERS, defined.take_place("RATE_NUMBERS"));
+    assert_eq!(RATE_THIRDS_END, defined.take("RATE_THIRDS_END").into());
+    assert_eq!(RATE_SIGN, defined.take_place("RATE_SIGN"));
+    let mut numbers = [0; RATE_NUMBERS];
+    for (name, own, number) in [
+        ("RATE_HOURS", RATE_HOURS, 4),
+        ("RATE_MINUTES", RATE_MINUTES, 5),
+        ("RATE_SECONDS", RATE_SECONDS, 6),
+        ("RATE_THIRDS", RATE_THIRDS, 7),
+    ] {
+        assert_eq!(own, defined.take_place(name), "{name}");
+        numbers[own] = number;
+    }
+    for (name, minus) in [("PLUS", false), ("MINUS", true)] {
+        numbers[RATE_SIGN] = defined.take(name);
+        let rate = Rate { minus, places: [4, 5, 6, 7] };
+        assert_eq!((rate_of(numbers), rate.numbers()), (Some(rate), numbers), "{name}");
+    }
+    for (name, own) in [
+        ("RATE_LESS", Ordering::Less),
+        ("RATE_EQUAL", Ordering::Equal),
+        ("RATE_GREATER", Ordering::Greater),
+    ] {
+        assert_eq!(order_of([defined.take(name).into()]), Some(own), "{name}");
     }
 }
 

@@ -1,7 +1,9 @@
-//! The store's calls on lent bytes, with the numbers that they answer.
+//! The store's calls on lent bytes, with the numbers that they answer; [`rate`] has those on rates.
 //!
 //! [`Store`](crate::Store) is what a program uses. These take any bytes at all, refuse what is not
 //! sound, and do as include/feqyondil.h says.
+
+pub mod rate;
 
 extern "C" {
     fn feqyondil_open(

@@ -5,8 +5,8 @@
 //! is lent: [`PART_SIZE`] bytes of work area for each bank, [`BANK_SIZE`] bytes of output for a
 //! commit. [`lent`] has the same calls on any bytes, with numbers, as C has them. [`same_settings`]
 //! compares two banks; [`bank_cause`] says why reading a bank stopped. [`run_log_read`] and
-//! [`run_log_write`] are for a value that is a log of winding runs. Calls on different buffers may run
-//! at once.
+//! [`run_log_write`] are for a value that is a log of winding runs. [`Rate`] is a daily rate in
+//! sixtieths, for [`rate_add`] and the calls beside it. Calls on different buffers may run at once.
 //!
 //! It links libfeqyondil.a, for x86-64, from the folder that the environment variable FEQYONDIL_LIB
 //! names, else from dist/ of the repository, where `make lib` puts it.
@@ -28,6 +28,7 @@ mod figures;
 mod header;
 pub mod lent;
 mod partition;
+mod rate;
 mod refusal;
 mod run_log;
 #[cfg(test)]
@@ -42,6 +43,10 @@ pub use checksum::{crc32, Tables};
 pub use commit::{Commit, NotCommitted};
 pub use figures::Figures;
 pub use partition::{partition_parse, partition_serialize, Partition, Slot};
+pub use rate::{
+    rate_add, rate_compare, rate_from_thirds, rate_subtract, rate_to_thirds, Rate, RATE_HOURS,
+    RATE_MINUTES, RATE_NUMBERS, RATE_SECONDS, RATE_SIGN, RATE_THIRDS, RATE_THIRDS_END,
+};
 pub use refusal::Refusal;
 pub use run_log::{run_log_read, run_log_write, RUN_NUMBERS, RUN_SECONDS, RUN_START, RUN_TURNS};
 pub use settings::same_settings;

@@ -53,6 +53,7 @@ refusals! {
     LogNumber = 16, "a log's number is cut off, not in its shortest form or 2^32 and more";
     LogOrder = 17, "a start minute is below the one before it";
     LogLength = 18, "bytes left over, no threes, a log over 4,096 bytes, an output too short";
+    RateRange = 19, "a rate's place, a sum, a difference or thirds out of range, or minus zero";
 }
 
 impl Refusal {

@@ -6,6 +6,7 @@ mod careful;
 mod causes;
 mod faults;
 mod figures;
+mod rates;
 mod run_log;
 mod settings;
 mod tally;
@@ -47,6 +48,19 @@ fn found_from<C: Comparison>(
     let inputs = Part::drawn("", 20_000, strategy).inputs;
     let found = Judge::new(Mode::Short, seed).part(comparison, "", inputs);
     found.expect_err("a difference")
+}
+
+/// A difference is found, of this size at most, and told in these words.
+fn is_found<C: Comparison>(
+    comparison: &C,
+    strategy: impl Strategy<Value = C::Input> + 'static,
+    size: fn(&C::Input) -> u64,
+    (most, words): (u64, &[&str]),
+) {
+    let Difference { input, why } = found(comparison, strategy);
+    let told = format!("{}\n{why}", comparison.told(&input));
+    assert!(size(&input) <= most, "{told}");
+    has(&told, words);
 }
 
 fn has(told: &str, words: &[&str]) {

@@ -18,6 +18,14 @@ impl Numbers {
         let found = self.0.iter().find(|(of, _)| *of == name);
         found.map_or(0, |(_, number)| *number)
     }
+
+    /// Each is so many at least.
+    #[cfg(test)]
+    pub fn are_met(&self, least: u64) {
+        for (name, number) in &self.0 {
+            assert!(*number >= least, "{name}: {self}");
+        }
+    }
 }
 
 impl AddAssign for Numbers {

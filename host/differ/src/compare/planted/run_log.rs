@@ -1,15 +1,13 @@
 //! Faults of the reader and of the writer of a log of winding runs.
 
-use proptest::strategy::Strategy;
 use run_log::NUMBERS;
 
-use super::{found, has};
+use super::{found, has, is_found};
 use crate::compare::run_log::{read, write, Answer, Port, PortCall, Reader, Writer};
 use crate::describe::{entries_to_write, log_to_read};
-use crate::judge::{Comparison, Difference};
 
 /// A fault, how many bytes or numbers there are at most in what shows it, and words of what is told.
-type Row<I, O> = (PortCall<I, O>, usize, &'static [&'static str]);
+type Row<I, O> = (PortCall<I, O>, u64, &'static [&'static str]);
 
 const READERS: [Row<u8, u32>; 12] = [
     (takes_a_longer_form, 2, &["log: 8000", "N6:   refused by 16\n  port: accepted, 0"]),
@@ -37,24 +35,11 @@ const WRITERS: [Row<u32, u8>; 8] = [
     (touches_bytes_behind, 0, &["the output from 1 on\n  N6:   [165", "port: [0"]),
 ];
 
-/// A difference is found, of this length at most.
-fn is_found<C: Comparison>(
-    comparison: &C,
-    strategy: impl Strategy<Value = C::Input> + 'static,
-    length: fn(&C::Input) -> usize,
-    (most, words): (usize, &[&str]),
-) {
-    let Difference { input, why } = found(comparison, strategy);
-    let told = format!("{}\n{why}", comparison.told(&input));
-    assert!(length(&input) <= most, "{told}");
-    has(&told, words);
-}
-
 #[test]
 fn faults_are_found_in_the_reading_of_logs() {
     for (read, most, words) in READERS {
         let reader = Reader { port: Port { read, ..Port::default() } };
-        is_found(&reader, log_to_read(false), |input| input.of.made().len(), (most, words));
+        is_found(&reader, log_to_read(false), |input| input.of.made().len() as u64, (most, words));
     }
 }
 
@@ -62,7 +47,12 @@ fn faults_are_found_in_the_reading_of_logs() {
 fn faults_are_found_in_the_writing_of_logs() {
     for (write, most, words) in WRITERS {
         let writer = Writer { port: Port { write, ..Port::default() } };
-        is_found(&writer, entries_to_write(false), |input| input.of.made().len(), (most, words));
+        is_found(
+            &writer,
+            entries_to_write(false),
+            |input| input.of.made().len() as u64,
+            (most, words),
+        );
     }
 }
 

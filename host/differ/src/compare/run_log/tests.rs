@@ -2,7 +2,7 @@
 
 use super::fixed::Row;
 use super::*;
-use crate::judge::{Counts, Judge};
+use crate::compare::drawn;
 
 /// The counts of rows of which each is counted as it says.
 fn of_rows<T, C>(comparison: &C, rows: Vec<Row<T>>) -> Numbers
@@ -20,14 +20,6 @@ where
     all
 }
 
-/// Every number that is counted is so many at least.
-fn all_are_met(counts: &Numbers, least: u64) {
-    for number in counts.to_string().split(", ") {
-        let count = number.split(' ').next().and_then(|count| count.parse::<u64>().ok());
-        assert!(count >= Some(least), "{number}: {counts}");
-    }
-}
-
 #[test]
 fn each_kind_has_its_answer() {
     let port = Port::default();
@@ -43,16 +35,8 @@ fn each_kind_has_its_answer() {
         let said = run_log::write(&entries, &mut log).map_err(|refusal| refusal as u32);
         assert_eq!(said, answer, "{name}: {input:?}");
     }
-    all_are_met(&of_rows(&Reader { port }, fixed::logs()), 1);
-    all_are_met(&of_rows(&Writer { port }, fixed::entries()), 1);
-}
-
-/// So many of a part are drawn, of which about a third is accepted.
-fn drawn<C: Comparison<Counts = Numbers>>(comparison: &C, inputs: Part<C::Input>) {
-    let counts = Judge::new(Mode::Short, 3).part(comparison, "", inputs.inputs).unwrap();
-    all_are_met(&counts, 20);
-    let (accepted, all) = (counts.get("accepted"), counts.inputs());
-    assert!(4 * accepted > all && 4 * accepted < 3 * all, "{counts}");
+    of_rows(&Reader { port }, fixed::logs()).are_met(1);
+    of_rows(&Writer { port }, fixed::entries()).are_met(1);
 }
 
 #[test]
