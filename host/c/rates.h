@@ -3,6 +3,7 @@
 #define RATES_H
 
 #include "board.h"
+#include "mean_rate.h" /* of docs/USING.md, 'Rates in sixtieths' */
 
 #define PLUS FEQYONDIL_PLUS
 #define MINUS FEQYONDIL_MINUS
@@ -164,6 +165,19 @@ static void rate_signs(void) {
     }
 }
 
+/* The mean of some rates: their sum may be over, and a rate among them may be none. */
+static void rate_means(void) {
+    static const uint32_t week[][FEQYONDIL_RATE_NUMBERS] = {
+        {PLUS, 23, 59, 59, 59}, {PLUS, 23, 59, 59, 57}, {MINUS, 0, 0, 0, 1}, {PLUS, 24, 0, 0, 0}};
+    uint32_t mean[FEQYONDIL_RATE_NUMBERS];
+    check(mean_rate(week, 2, mean) == FEQYONDIL_OK, "a mean");
+    check(memcmp(mean, RATE(PLUS, 23, 59, 59, 58), sizeof mean) == 0, "the mean of two long rates");
+    check(mean_rate(week + 2, 1, mean) == FEQYONDIL_OK, "a mean of one");
+    check(memcmp(mean, week[2], sizeof mean) == 0, "it is the rate");
+    check(mean_rate(week, 0, mean) == FEQYONDIL_OK && memcmp(mean, ZERO, sizeof mean) == 0, "a mean of none");
+    check(mean_rate(week, 4, mean) == FEQYONDIL_RATE_RANGE, "19: a mean");
+}
+
 static void rates(void) {
     rate_sums();
     longest_rates();
@@ -171,6 +185,7 @@ static void rates(void) {
     rate_thirds();
     rate_places();
     rate_signs();
+    rate_means();
 }
 
 #endif
