@@ -5,7 +5,7 @@ use mathlib.Core.Bool.{true}
 use mathlib.Core.List.{List, [], _∷_}
 use native.Mathlib.Omega.{arith}
 use native.Mathlib.Nat.{mod-eq-sub-mul-div, mul-div-le, div-eq-of-lt, add-mul-div-left}
-use lib.ListN.{length, getD, set}
+use lib.ListN.{getD, set}
 use Rattle.rate.specs.declared.places.Carried.{Carried}
 use Rattle.rate.specs.Rate.{magnitude, inRange, placesOf}
 use Rattle.rate.specs.Places.{limitOf, carried}

@@ -1,6 +1,6 @@
 -- Four places: those in range are the places of their thirds, and of no other number below 24 hours.
 use Prim.Native.Nat.{ℕ, _+_, _-_, _*_, _/_, _%_, _<_}
-use mathlib.Core.Path.{_≡_, refl, sym, _∙_}
+use mathlib.Core.Path.{_≡_, refl, sym}
 use mathlib.Core.List.{List, [], _∷_}
 use mathlib.Core.Bool.{true}
 use native.Mathlib.Omega.{arith}
@@ -42,14 +42,14 @@ range-shows p h =
       last = ltb-true _ _ (a .1);
     }
 
+ranged : (h m s t : ℕ) → h < 24 → m < 60 → s < 60 → t < 60 → inRange (h ∷ m ∷ s ∷ t ∷ []) ≡ true
+unfolding inRange
+ranged h m s t a b c d = simp (lt-ltb _ _ a, lt-ltb _ _ b, lt-ltb _ _ c, lt-ltb _ _ d)
+
 pub places-range : (n : ℕ) → inRange (placesOf n) ≡ true
-unfolding inRange placesOf
+unfolding placesOf
 places-range n =
-    let a : n / 60 / 60 / 60 % 24 < 24 = omega arith in
-    let b : n / 60 / 60 % 60 < 60 = omega arith in
-    let c : n / 60 % 60 < 60 = omega arith in
-    let d : n % 60 < 60 = omega arith in
-    simp (lt-ltb _ _ a, lt-ltb _ _ b, lt-ltb _ _ c, lt-ltb _ _ d)
+    ranged (n / 60 / 60 / 60 % 24) (n / 60 / 60 % 60) (n / 60 % 60) (n % 60) (omega arith) (omega arith) (omega arith) (omega arith)
 
 -- 24 hours more have the same places
 pub places-day : (n : ℕ) → placesOf (n + 5184000) ≡ placesOf n
@@ -64,13 +64,8 @@ places-day n =
 -- what is missing to the last third of 24 hours
 module _ (p : List ℕ) (h : InRange p) where
   pub complement-range : inRange ((23 - getD p 0 0) ∷ (59 - getD p 1 0) ∷ (59 - getD p 2 0) ∷ (59 - getD p 3 0) ∷ []) ≡ true
-  unfolding inRange
   complement-range =
-      let a : 23 - getD p 0 0 < 24 = omega arith in
-      let b : 59 - getD p 1 0 < 60 = omega arith in
-      let c : 59 - getD p 2 0 < 60 = omega arith in
-      let d : 59 - getD p 3 0 < 60 = omega arith in
-      simp (lt-ltb _ _ a, lt-ltb _ _ b, lt-ltb _ _ c, lt-ltb _ _ d)
+      ranged (23 - getD p 0 0) (59 - getD p 1 0) (59 - getD p 2 0) (59 - getD p 3 0) (omega arith) (omega arith) (omega arith) (omega arith)
 
   pub complement-sum : magnitude ((23 - getD p 0 0) ∷ (59 - getD p 1 0) ∷ (59 - getD p 2 0) ∷ (59 - getD p 3 0) ∷ []) + magnitude p ≡ 5183999
   unfolding magnitude

@@ -89,8 +89,8 @@ unfolding signed
 no-sign false = refl
 no-sign true = refl
 
-taken : (m : Bool) (p q : ℕ) → q < p → p < 5184000 → placed m (placesOf (p - q)) ≡ fromThirds (signed m p +ℤ signed (not m) q)
-taken m p q l h =
+lessened : (m : Bool) (p q : ℕ) → q < p → p < 5184000 → placed m (placesOf (p - q)) ≡ fromThirds (signed m p +ℤ signed (not m) q)
+lessened m p q l h =
     let f : p - q + q ≡ p = omega arith in
     let g : p - q < 5184000 = omega arith in
     let k : 0 < p - q = omega arith in
@@ -98,10 +98,10 @@ taken m p q l h =
 
 module _ (m n : Bool) (p q : ℕ) (e : Bool·beq m n ≡ false) where
   pub first-greater : {d : List ℕ} → q < p → p < 5184000 → d ≡ placesOf (p - q) → placed m d ≡ fromThirds (signed m p +ℤ signed n q)
-  first-greater l h f = rw (f, sym (unlike m n e .0)) (taken m p q l h)
+  first-greater l h f = rw (f, sym (unlike m n e .0)) (lessened m p q l h)
 
   pub second-greater : {d : List ℕ} → p < q → q < 5184000 → d ≡ placesOf (q - p) → placed n d ≡ fromThirds (signed m p +ℤ signed n q)
-  second-greater l h f = rw (f, +ℤ-comm (signed m p) (signed n q), sym (unlike m n e .1)) (taken n q p l h)
+  second-greater l h f = rw (f, +ℤ-comm (signed m p) (signed n q), sym (unlike m n e .1)) (lessened n q p l h)
 
   pub equal : p ≡ q → placed false (0 ∷ 0 ∷ 0 ∷ 0 ∷ []) ≡ fromThirds (signed m p +ℤ signed n q)
   unfolding placesOf

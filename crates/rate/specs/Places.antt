@@ -8,7 +8,7 @@ use Rattle.rate.specs.declared.RateAnswer.{RateAnswer}
 use Rattle.rate.specs.declared.places.Carried.{Carried}
 use Rattle.rate.specs.Rate.{placesOf}
 
--- how much a place holds, counted from the hours
+-- how much a place holds, by its index: 24 hours, 60 of the others
 unfoldable pub limitOf : ℕ → ℕ
 limitOf zero = 24
 limitOf (suc i) = 60
@@ -17,7 +17,7 @@ limitOf (suc i) = 60
 unfoldable pub carried : ℕ → Carried
 carried n = record { over = n / 60 / 60 / 60 / 24; places = placesOf n }
 
--- accepted
+-- an accepted answer, by its sign and places
 unfoldable pub placed : Bool → List ℕ → RateAnswer
 placed minus p = record { number = 0; rate = record { minus = minus; places = p } }
 

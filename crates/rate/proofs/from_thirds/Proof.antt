@@ -1,6 +1,6 @@
 use Prim.Native.Nat.{_<_}
 use mathlib.Core.Path.{_≡_, sym, _∙_}
-use mathlib.Core.Bool.{true, false}
+use mathlib.Core.Bool.{false}
 use lib.Dec.{ltb}
 use lib.IntN.{natAbs}
 use mir.Syntax.{w64}

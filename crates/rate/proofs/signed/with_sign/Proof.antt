@@ -1,4 +1,3 @@
-use native.Mathlib.Omega.{arith}
 use lib.IntN.{pos}
 use Rattle.rate.specs.Rate.{signed}
 use Rattle.rate.proofs.Signs.{held, neg-fits, neg-held}
