@@ -4,9 +4,11 @@ use mathlib.Core.Path.{_≡_}
 use mathlib.Core.List.{List, [], _∷_}
 use mathlib.Core.Bool.{Bool, not, cond}
 use lib.Dec.{eqb}
+use lib.IntN.{ℤ}
 use lib.ListN.{getD}
 use Rattle.rate.specs.declared.Rate.{Rate}
 use Rattle.rate.specs.declared.RateAnswer.{RateAnswer}
+use Rattle.rate.specs.declared.ThirdsAnswer.{ThirdsAnswer}
 use Rattle.rate.specs.declared.Order.{Order}
 use Rattle.rate.specs.declared.Order.the-variants.{Refused, Less, Equal, Greater}
 
@@ -36,3 +38,10 @@ orderField Refused = 0 ∷ []
 orderField Less = 1 ∷ []
 orderField Equal = 2 ∷ []
 orderField Greater = 3 ∷ []
+
+-- the same of an order, and of thirds
+abbrev pub TellsOrder : Order → ℕ → List ℕ → Type 0
+TellsOrder o r q = (r ≡ orderNumber o) × (q ≡ orderField o)
+
+abbrev pub TellsThirds : ThirdsAnswer → ℕ → List ℤ → Type 0
+TellsThirds x r q = (r ≡ x .number) × (q ≡ x .thirds ∷ [])

@@ -4,10 +4,9 @@ use rate::Order;
 use rate::Rate;
 use rate::RateAnswer;
 ghost use mathlib.Core.Path.{_≡_};
-ghost use mathlib.Core.List.{[], _∷_};
 ghost use lib.IntN.{_+ℤ_, _-ℤ_};
 ghost use Rattle.rate.specs.Answer.{fromThirds, operationOf, onThirds, orderOf, toThirds};
-ghost use Rattle.exports.specs.Rates.{rateIn, signNumber, rateNumbers, TellsRate, orderNumber, orderField};
+ghost use Rattle.exports.specs.Rates.{rateIn, signNumber, rateNumbers, TellsRate, orderNumber, orderField, TellsOrder, TellsThirds};
 
 fn rate_in(numbers: &[u32; 5]) -> Rate
     ensures { λ r. ⌜ r ≡ rateIn (now (numbers .entry)) ⌝ }
@@ -83,20 +82,25 @@ fn order_field(order: Order) -> [u64; 1]
     }
 }
 
+fn tell_order(order: Order, out: &mut [u64; 1]) -> u32
+    ensures { λ r. ⌜ TellsOrder order r (now (out .exit)) ⌝ }
+{
+    *out = order_field(order);
+    order_number(order)
+}
+
 // Whether the first rate is less than the second, equal to it or greater.
 #[no_mangle]
 pub extern "C" fn feqyondil_rate_compare(a: &[u32; 5], b: &[u32; 5], out: &mut [u64; 1]) -> u32
-    ensures { λ r. ⌜ (r ≡ orderNumber (orderOf (rateIn (now (a .entry))) (rateIn (now (b .entry))))) × (now (out .exit) ≡ orderField (orderOf (rateIn (now (a .entry))) (rateIn (now (b .entry))))) ⌝ }
+    ensures { λ r. ⌜ TellsOrder (orderOf (rateIn (now (a .entry))) (rateIn (now (b .entry)))) r (now (out .exit)) ⌝ }
 {
-    let order = rate::compare(rate_in(a), rate_in(b));
-    *out = order_field(order);
-    order_number(order)
+    tell_order(rate::compare(rate_in(a), rate_in(b)), out)
 }
 
 // The whole thirds of a rate.
 #[no_mangle]
 pub extern "C" fn feqyondil_rate_to_thirds(numbers: &[u32; 5], out: &mut [i64; 1]) -> u32
-    ensures { λ r. ⌜ (r ≡ toThirds (rateIn (now (numbers .entry))) .number) × (now (out .exit) ≡ toThirds (rateIn (now (numbers .entry))) .thirds ∷ []) ⌝ }
+    ensures { λ r. ⌜ TellsThirds (toThirds (rateIn (now (numbers .entry)))) r (now (out .exit)) ⌝ }
 {
     let answer = rate::to_thirds(rate_in(numbers));
     *out = [answer.thirds];

@@ -29,7 +29,7 @@ pub record Given (z : ℤ) (a : RateAnswer) : Type 0 where
   pub means : Means z (a .rate)
 
 pub given : (z : ℤ) → fromThirds z .number ≡ 0 → Given z (fromThirds z)
-unfolding fromThirds refusal
+unfolding fromThirds
 given z =
     by-test (λ (a : RateAnswer). a .number ≡ 0 → Given z a) (ltb (natAbs z) 5184000) (record { number = 0; rate = rateOf z }) refusal
     (λ e _. let h = ltb-true _ _ e in record { small = h; means = record { good = rate-is z h; value = thirds-rate z h } })
@@ -42,7 +42,7 @@ pub record Sum (f : ℤ → ℤ → ℤ) (a b : Rate) (s : RateAnswer) : Type 0 
   pub gives : Given (f (thirds a) (thirds b)) s
 
 pub sum-shows : (f : ℤ → ℤ → ℤ) (a b : Rate) → onThirds f a b .number ≡ 0 → Sum f a b (onThirds f a b)
-unfolding onThirds refusal
+unfolding onThirds
 sum-shows f a b =
     let z = f (thirds a) (thirds b) in
     by-test (λ (s : RateAnswer). s .number ≡ 0 → Sum f a b s) (isRate a && isRate b) (fromThirds z) refusal

@@ -3,13 +3,13 @@ use Prim.Native.Nat.{ℕ, zero, suc, _+_, _≤_, _<_}
 use mathlib.Core.Path.{_≡_, refl, sym, ap, _∙_}
 use mathlib.Core.Bool.{Bool, true, false, _&&_, not, and-true, true≢false}
 use native.Mathlib.Omega.{arith}
-use lib.Dec.{T, eqb, ltb}
+use lib.Dec.{T, ltb}
 use lib.IntN.{ℤ, pos, negsuc, negℤ, natAbs, _+ℤ_, _-ℤ_, +ℤ-idl, negℤ-+ℤ, negℤ-negℤ, +ℤ-negℤ-cancel}
 use lib.Signed.{ltZ, mag, nonNeg}
 use mir.Syntax.{w64}
 use mir.Val.{SFits, toZ, ofZ}
 use mir.ValLaws.{toZ-ofZ}
-use borrow.Author.Tests.{ltb-true, ltb-false, lt-ltb, le-ltb, ne-eqb}
+use borrow.Author.Tests.{ltb-true, ltb-false, lt-ltb, le-ltb}
 use Rattle.rate.specs.Rate.{signed}
 
 -- sign and size
@@ -24,12 +24,12 @@ unfolding signed
 abs-signed false n = refl
 abs-signed true n = abs-neg (pos n)
 
--- zero has no minus
-pub sign-signed : (m : Bool) (n : ℕ) → ltZ (signed m n) (pos 0) ≡ (m && not (eqb n 0))
+-- where what has a minus is not zero
+pub sign-signed : (m : Bool) (n : ℕ) → (m ≡ true → 0 < n) → ltZ (signed m n) (pos 0) ≡ m
 unfolding signed
-sign-signed false n = le-ltb n 0 (omega arith)
-sign-signed true zero = refl
-sign-signed true (suc n) = rw (ne-eqb (suc n) 0 (λ e. omega arith))
+sign-signed false n some = le-ltb n 0 (omega arith)
+sign-signed true zero some = absurd (omega (arith, some refl))
+sign-signed true (suc n) some = refl
 
 pub signed-abs : (z : ℤ) → signed (ltZ z (pos 0)) (natAbs z) ≡ z
 unfolding signed
@@ -82,7 +82,7 @@ module _ (z : ℤ) (h : natAbs z < 9223372036854775808) where
   fits = record { sfits = omega (arith, mag-le z) }
 
   pub held : toZ w64 (ofZ w64 z) ≡ z
-  held = toZ-ofZ w64 z fits
+  held = kept z (fits .sfits)
 
 -- and so is its negation
 module _ (z : ℤ) (h : natAbs z < 9223372036854775808) where

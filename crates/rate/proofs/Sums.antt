@@ -1,45 +1,30 @@
 -- Sums by signs and places: what the code answers at each exit is what comes of the thirds.
-use Prim.Native.Nat.{ℕ, zero, suc, _+_, _-_, _≤_, _<_}
+use Prim.Native.Nat.{ℕ, _+_, _-_, _≤_, _<_}
 use mathlib.Core.Path.{_≡_, refl, sym, ap, _∙_}
 use mathlib.Core.List.{List, [], _∷_}
-use mathlib.Core.Bool.{Bool, Bool·beq, true, false, _&&_, not, true≢false}
+use mathlib.Core.Bool.{Bool, Bool·beq, true, false, not, true≢false}
 use native.Mathlib.Omega.{arith}
-use lib.Dec.{eqb}
 use lib.IntN.{ℤ, pos, natAbs, _+ℤ_, +ℤ-comm}
 use lib.Signed.{ltZ}
-use borrow.Author.Tests.{lt-ltb, le-ltb, ne-eqb}
+use borrow.Author.Tests.{lt-ltb, le-ltb}
 use Rattle.rate.specs.declared.Operation.{Operation}
 use Rattle.rate.specs.declared.Operation.the-variants.{Add, Subtract}
-use Rattle.rate.specs.declared.Rate.{Rate}
 use Rattle.rate.specs.declared.places.Carried.{Carried}
-use Rattle.rate.specs.Rate.{magnitude, signed, isRate, placesOf, rateOf}
+use Rattle.rate.specs.Rate.{signed, placesOf, rateOf}
 use Rattle.rate.specs.Answer.{refusal, fromThirds, operationOf}
 use Rattle.rate.specs.Places.{carried, placed, signIn}
 use Rattle.rate.proofs.Signs.{abs-signed, sign-signed, signed-not, signed-add, signed-take}
 use Rattle.rate.proofs.PlaceLaws.{places-day}
-use Rattle.rate.proofs.Thirds.{rate-shows}
 
 -- places are answered for their thirds; what has a minus is not zero
 
-kept-sign : (m : Bool) (n : ℕ) → (m ≡ true → 0 < n) → (m && not (eqb n 0)) ≡ m
-kept-sign false n s = refl
-kept-sign true n s = let h : 0 < n = s refl in rw (ne-eqb n 0 (λ e. omega arith))
-
 placed-from : (m : Bool) (n : ℕ) → (m ≡ true → 0 < n) → n < 5184000 → placed m (placesOf n) ≡ fromThirds (signed m n)
-unfolding placed fromThirds rateOf
-placed-from m n s h = rw (abs-signed m n, sign-signed m n, kept-sign m n s, lt-ltb _ _ h)
+unfolding fromThirds rateOf
+placed-from m n some h = rw (abs-signed m n, sign-signed m n some, lt-ltb _ _ h)
 
 pub placed-thirds : (z : ℤ) → natAbs z < 5184000 → placed (ltZ z (pos 0)) (placesOf (natAbs z)) ≡ fromThirds z
-unfolding placed fromThirds rateOf
+unfolding fromThirds rateOf
 placed-thirds z h = rw (lt-ltb _ _ h)
-
-pub rate-some : (r : Rate) → isRate r ≡ true → r .minus ≡ true → 0 < magnitude (r .places)
-rate-some r h = some (r .minus) (magnitude (r .places)) (rate-shows r h .sign)
-  where
-    some : (m : Bool) (n : ℕ) → (m && not (eqb n 0)) ≡ m → m ≡ true → 0 < n
-    some false n h e = absurd (true≢false (sym e))
-    some true zero h e = absurd (true≢false (sym h))
-    some true (suc n) h e = omega arith
 
 -- two signs
 

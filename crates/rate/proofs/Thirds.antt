@@ -1,7 +1,7 @@
 -- A rate and its whole thirds: each number of thirds below 24 hours, either way, has one rate.
-use Prim.Native.Nat.{suc, _<_}
-use mathlib.Core.Path.{_≡_, refl, sym, ap, _∙_}
-use mathlib.Core.Bool.{Bool, true, false, _&&_, not}
+use Prim.Native.Nat.{ℕ, zero, suc, _<_}
+use mathlib.Core.Path.{_≡_, sym, ap, _∙_}
+use mathlib.Core.Bool.{Bool, true, false, _&&_, not, true≢false}
 use native.Mathlib.Omega.{arith}
 use lib.Dec.{eqb}
 use lib.IntN.{ℤ, pos, negsuc, natAbs}
@@ -17,20 +17,21 @@ pub rate-range : (r : Rate) → isRate r ≡ true → inRange (r .places) ≡ tr
 unfolding isRate
 rate-range r h = and-both _ _ h .0
 
--- what being a rate shows
+-- what being a rate shows: what has a minus is not zero
 pub record IsRate (r : Rate) : Type 0 where
   pub range : InRange (r .places)
-  pub sign : (r .minus && not (eqb (magnitude (r .places)) 0)) ≡ r .minus
-
-no-minus-zero : (m t : Bool) → not (m && t) ≡ true → (m && not t) ≡ m
-no-minus-zero false t h = refl
-no-minus-zero true t h = h
+  pub some : r .minus ≡ true → 0 < magnitude (r .places)
 
 pub rate-shows : (r : Rate) → isRate r ≡ true → IsRate r
 unfolding isRate
 rate-shows r h =
     let b = and-both _ _ h in
-    record { range = range-shows (r .places) (b .0); sign = no-minus-zero (r .minus) _ (b .1) }
+    record { range = range-shows (r .places) (b .0); some = go (r .minus) (magnitude (r .places)) (b .1) }
+  where
+    go : (m : Bool) (n : ℕ) → not (m && eqb n 0) ≡ true → m ≡ true → 0 < n
+    go false n h e = absurd (true≢false (sym e))
+    go true zero h e = absurd (true≢false (sym h))
+    go true (suc n) h e = omega arith
 
 pub thirds-below : (r : Rate) → isRate r ≡ true → natAbs (thirds r) < 5184000
 unfolding thirds
@@ -55,7 +56,7 @@ pub rate-thirds : (r : Rate) → isRate r ≡ true → rateOf (thirds r) ≡ r
 unfolding thirds rateOf
 rate-thirds r h =
     let s = rate-shows r h in
-    rw (abs-signed (r .minus) (magnitude (r .places)), sign-signed (r .minus) (magnitude (r .places)), s .sign, places-magnitude (r .places) (s .range))
+    rw (abs-signed (r .minus) (magnitude (r .places)), sign-signed (r .minus) (magnitude (r .places)) (s .some), places-magnitude (r .places) (s .range))
 
 -- two rates with equal thirds are the same rate
 pub one-form : (a b : Rate) → isRate a ≡ true → isRate b ≡ true → thirds a ≡ thirds b → a ≡ b

@@ -14,7 +14,7 @@ use Rattle.rate.specs.declared.Order.the-variants.{Refused, Less, Equal,
 use Rattle.rate.specs.Rate.{thirds, isRate, dayThirds, rateOf}
 
 -- refused: 19, and zeros
-unfoldable pub refusal : RateAnswer
+abbrev pub refusal : RateAnswer
 refusal = record { number = 19; rate = record { minus = false; places = 0 ∷ 0 ∷ 0 ∷ 0 ∷ [] } }
 
 -- the rate of a number of thirds, where four places hold it

@@ -18,7 +18,7 @@ unfoldable pub carried : ℕ → Carried
 carried n = record { over = n / 60 / 60 / 60 / 24; places = placesOf n }
 
 -- an accepted answer, by its sign and places
-unfoldable pub placed : Bool → List ℕ → RateAnswer
+abbrev pub placed : Bool → List ℕ → RateAnswer
 placed minus p = record { number = 0; rate = record { minus = minus; places = p } }
 
 -- the sign with which a second number is added

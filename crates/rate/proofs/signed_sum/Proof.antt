@@ -3,7 +3,7 @@ use mathlib.Core.Path.{_≡_, _∙_}
 use Rattle.rate.specs.Rate.{magnitude, thirds}
 use Rattle.rate.proofs.PlaceLaws.{range-shows, magnitude-below}
 use Rattle.rate.proofs.Thirds.{rate-range, rate-shows}
-use Rattle.rate.proofs.Sums.{rate-some, same-over, same-signs, first-greater, second-greater, equal}
+use Rattle.rate.proofs.Sums.{same-over, same-signs, first-greater, second-greater, equal}
 use borrow.Author.Needs.{needs}
 use Rattle.rate.proofs.signed_sum.Statement.{statement}
 use Rattle.rate.proofs.signed_sum.Tie as tie
@@ -29,7 +29,7 @@ returns-2 c =
     let s = c .before .before .before .before .before .before .before .before in
     let a = s .args in
     c .accepted .ensures
-    ∙ same-signs (a .a .minus) (a .minus) (magnitude (a .a .places)) (magnitude (a .q)) (c .before .before .before .before .before .if1 .taken) (c .before .before .before .before .carry .ensures) (rate-some (a .a) (s .pre .0)) (c .before .before .if2 .left)
+    ∙ same-signs (a .a .minus) (a .minus) (magnitude (a .a .places)) (magnitude (a .q)) (c .before .before .before .before .before .if1 .taken) (c .before .before .before .before .carry .ensures) (rate-shows (a .a) (s .pre .0) .some) (c .before .before .if2 .left)
 
 magnitude-requires : tie.Need-magnitude-requires
 magnitude-requires c κs = search needs

@@ -11,23 +11,13 @@ rate-in-requires-2 c κs = search needs
 compare-requires : tie.Need-compare-requires
 compare-requires c κs = search needs
 
-order-field-requires : tie.Need-order-field-requires
-order-field-requires c κs = search needs
-
-order-number-requires : tie.Need-order-number-requires
-order-number-requires c κs = search needs
+tell-order-requires : tie.Need-tell-order-requires
+tell-order-requires c κs = search needs
 
 returns : tie.Need-returns
-returns c =
-    (rw (c .before .before .compare .ensures, c .before .before .before .before .rate-in .ensures, c .before .before .before .rate-in2 .ensures) at (c .order-number .ensures), rw (c .before .before .compare .ensures, c .before .before .before .before .rate-in .ensures, c .before .before .before .rate-in2 .ensures) at (c .before .order-field .ensures))
+returns c = rw (c .before .before .compare .ensures, c .before .before .before .before .rate-in .ensures, c .before .before .before .rate-in2 .ensures) at (c .tell-order .ensures)
 
 pub feqyondil-rate-compare-spec : {M : Type 1} → statement M
 feqyondil-rate-compare-spec =
     tie.close
-    (tie.spec
-    rate-in-requires
-    rate-in-requires-2
-    compare-requires
-    order-field-requires
-    order-number-requires
-    returns)
+    (tie.spec rate-in-requires rate-in-requires-2 compare-requires tell-order-requires returns)

@@ -89,12 +89,16 @@ pub fn takes_the_first_sign(a: &Rate, b: &Rate, sum: &mut Rate) -> u32 {
     number
 }
 
-pub fn adds_to_minus_zero(a: &Rate, b: &Rate, sum: &mut Rate) -> u32 {
-    let number = (LENT.add)(a, b, sum);
-    if number == 0 && *sum == ZERO {
-        sum[0] = a[0].min(1);
+/// An accepted zero gets the first's sign.
+fn signs_zero(number: u32, a: &Rate, answer: &mut Rate) -> u32 {
+    if number == 0 && *answer == ZERO {
+        answer[0] = a[0].min(1);
     }
     number
+}
+
+pub fn adds_to_minus_zero(a: &Rate, b: &Rate, sum: &mut Rate) -> u32 {
+    signs_zero((LENT.add)(a, b, sum), a, sum)
 }
 
 pub fn answers_the_lent_sign(a: &Rate, b: &Rate, sum: &mut Rate) -> u32 {
@@ -155,11 +159,7 @@ pub fn loses_a_borrow(a: &Rate, b: &Rate, difference: &mut Rate) -> u32 {
 }
 
 pub fn leaves_minus_zero(a: &Rate, b: &Rate, difference: &mut Rate) -> u32 {
-    let number = (LENT.subtract)(a, b, difference);
-    if number == 0 && *difference == ZERO {
-        difference[0] = a[0].min(1);
-    }
-    number
+    signs_zero((LENT.subtract)(a, b, difference), a, difference)
 }
 
 pub fn turns_both(a: &Rate, b: &Rate, difference: &mut Rate) -> u32 {
