@@ -5,7 +5,7 @@ ghost use Rattle.bank.specs.Header.{header_bytes, read_header};
 use super::number::{le32, u32_at};
 use super::variable::Variable;
 
-#[derive(Drop)]
+#[derive(Clone, Copy)]
 pub struct StoreHeader {
     pub size: u32,
     pub generation: u32,
@@ -16,7 +16,7 @@ pub struct StoreHeader {
 }
 
 // What the first 24 bytes of a bank are: the first fault met, or a header.
-#[derive(Drop)]
+#[derive(Clone, Copy)]
 pub enum Head {
     Signature,
     Version,

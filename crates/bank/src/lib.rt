@@ -1,4 +1,6 @@
 // The v3 bank: its header and records, read from 65,536 bytes and written back.
+#![tactic(auto)]
+
 mod header;
 mod number;
 mod partition;

@@ -14,7 +14,7 @@ use super::variable::{Step, VarHeader, Variable};
 
 // Why reading a bank's records stopped: a blank, a wrong start number, a record over what remains, the end of size; or a name length of 0
 // or an unequal CRC, which make the bank Invalid.
-#[derive(Drop)]
+#[derive(Clone, Copy)]
 pub enum Stop {
     Blank,
     Start,
@@ -25,7 +25,7 @@ pub enum Stop {
 }
 
 // What a bank is known by: its header, and the figures of its records.
-#[derive(Drop)]
+#[derive(Clone, Copy)]
 pub struct Partition {
     pub header: StoreHeader,
     pub total_used: usize,
@@ -33,7 +33,7 @@ pub struct Partition {
 }
 
 // What 65,536 bytes are as a bank; Short where there are fewer.
-#[derive(Drop)]
+#[derive(Clone, Copy)]
 pub enum Slot {
     Short,
     Empty,
@@ -42,7 +42,7 @@ pub enum Slot {
 }
 
 // The offset at which reading stopped, why, and how many records it had read.
-#[derive(Drop)]
+#[derive(Clone, Copy)]
 pub struct Walked {
     pub at: usize,
     pub stop: Stop,

@@ -9,14 +9,14 @@ use super::number::{le32, u16_at, u32_at};
 use super::partition::Stop;
 
 // System by its GUID, else Common.
-#[derive(Drop)]
+#[derive(Clone, Copy)]
 pub enum VarType {
     Common,
     System,
 }
 
 // A record's 36 bytes in front of name and value. Name size counts the closing byte.
-#[derive(Drop)]
+#[derive(Clone, Copy)]
 pub struct VarHeader {
     pub state: u8,
     pub attrs: u32,
@@ -27,14 +27,14 @@ pub struct VarHeader {
 }
 
 // What stands at an offset of a bank: a record of so many bytes, or the reason to stop there.
-#[derive(Drop)]
+#[derive(Clone, Copy)]
 pub enum Step {
     Next(usize),
     Halt(Stop),
 }
 
 // The record type: its sizes, states and masks, and what is made without a record at hand.
-#[derive(Drop)]
+#[derive(Clone, Copy)]
 pub struct Variable;
 
 impl Variable {

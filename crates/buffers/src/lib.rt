@@ -1,5 +1,7 @@
 // Bytes: the number in four of them, and operations on slices that LLVM makes vector code of: tests by blocks without an early exit inside,
 // fill and copy by plain loops.
+#![tactic(auto)]
+
 ghost use Rattle.std.specs.Prelude.{◌≡◌, ◌+◌, ◌*◌, ◌<◌, min, length, replicate};
 ghost use Rattle.buffers.specs.Bytes.{all_ff, all_blank, count_ff, eq_bytes, onto};
 

@@ -1,4 +1,6 @@
 // CRC-32 of IEEE 802.3: a byte at a time by a table of 256, and four or sixteen bytes a turn by as many such tables.
+#![tactic(auto)]
+
 mod rows;
 mod table;
 

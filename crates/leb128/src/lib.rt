@@ -1,10 +1,12 @@
 // Numbers below 2^32 in groups of seven bits, lowest first, with the top bit set on all but the last group (unsigned LEB128): 02, N6.
+#![tactic(auto)]
+
 ghost use Rattle.std.specs.Prelude.{◌≡◌, ◌+◌, ◌*◌, ◌≤◌, ◌<◌, length, drop};
 ghost use Rattle.buffers.specs.Bytes.{over};
 ghost use Rattle.leb128.specs.Leb128.{encoded, encoded_all, decoded, decoded_all};
 
 // A number and how many bytes it takes; or none that is whole, in its shortest form and below 2^32.
-#[derive(Drop)]
+#[derive(Clone, Copy)]
 pub enum Decoded {
     Malformed,
     Number(u32, usize),

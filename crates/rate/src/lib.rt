@@ -1,4 +1,6 @@
 // Daily rates in sixtieths: 02, N8. What they mean is whole thirds; sums and differences are carried through the places.
+#![tactic(auto)]
+
 mod places;
 mod signed;
 
@@ -12,33 +14,33 @@ use places::{carry, difference, in_range, magnitude, places_of};
 use signed::{less, size, with_sign, within};
 
 // Hours, minutes, seconds, thirds, and whether there is a minus before them.
-#[derive(Drop)]
+#[derive(Clone, Copy)]
 pub struct Rate {
     pub minus: bool,
     pub places: [u32; 4],
 }
 
 // A refusal's number, or 0, and a rate, zero where refused.
-#[derive(Drop)]
+#[derive(Clone, Copy)]
 pub struct RateAnswer {
     pub number: u32,
     pub rate: Rate,
 }
 
 // The same of a number of thirds.
-#[derive(Drop)]
+#[derive(Clone, Copy)]
 pub struct ThirdsAnswer {
     pub number: u32,
     pub thirds: i64,
 }
 
-#[derive(Drop)]
+#[derive(Clone, Copy)]
 pub enum Operation {
     Add,
     Subtract,
 }
 
-#[derive(Drop)]
+#[derive(Clone, Copy)]
 pub enum Order {
     Refused,
     Less,

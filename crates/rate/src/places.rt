@@ -4,7 +4,7 @@ ghost use Rattle.rate.specs.Rate.{in_range, places_of, magnitude as magnitudeOf}
 ghost use Rattle.rate.specs.Places.{limit_of, carried};
 
 // Places, and what was carried out of the hours.
-#[derive(Drop)]
+#[derive(Clone, Copy)]
 pub struct Carried {
     pub over: u32,
     pub places: [u32; 4],

@@ -1,17 +1,19 @@
 // Erase requests counted by caller: 02, N7.
+#![tactic(auto)]
+
 ghost use Rattle.std.specs.Prelude.{◌≡◌, ℕ, ◌+◌};
 ghost use Rattle.std.proofs.Math.Option.{some};
 ghost use Rattle.tally.specs.Tally.{stopped, no_tally, counted, total_of};
 
 // Who commits.
-#[derive(Drop)]
+#[derive(Clone, Copy)]
 pub enum Caller {
     Clock,
     Barrel,
 }
 
 // Erase requests in each caller's commits since opening.
-#[derive(Drop)]
+#[derive(Clone, Copy)]
 pub struct Tally {
     pub clock: u32,
     pub barrel: u32,
