@@ -1,4 +1,6 @@
 // Why reading a bank stopped: request N2.
+#![tactic(auto)]
+
 ghost use Rattle.std.specs.Prelude.{◌≡◌, ◌≤◌, length, take};
 ghost use Rattle.bank.specs.Bank.{bank_size};
 ghost use Rattle.cause.specs.Cause.{walk_cause, bank_cause, cause_of, spot_of};
@@ -7,14 +9,14 @@ ghost use Rattle.cause.specs.Named.{Named};
 use bank::{Head, Partition, Stop, StoreHeader, Walked};
 
 // A byte of a bank, and the record that it belongs to, counted from 0.
-#[derive(Drop)]
+#[derive(Clone, Copy)]
 pub struct Spot {
     pub place: usize,
     pub index: usize,
 }
 
 // Too few bytes; all 0xFF; five that make a bank Invalid; four that leave it Valid.
-#[derive(Drop)]
+#[derive(Clone, Copy)]
 pub enum Cause {
     Short,
     Empty,

@@ -13,7 +13,6 @@ use Rattle.crc32.specs.Crc32.{Bytes}
 use Rattle.buffers.proofs.BelowLaws.{below_take, below_drop}
 use Rattle.buffers.proofs.Laws.{clash, and_both}
 use Rattle.bank.specs.Bank.{Slot, invalid, part_of}
-use Rattle.bank.specs.Totals.{total}
 use Rattle.tally.specs.declared.Tally.{Tally}
 use Rattle.book.specs.Book.{part_size, Book, FineSlots, FineBook}
 use Rattle.nvram.specs.declared.state.Kind.{Kind}

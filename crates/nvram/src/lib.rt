@@ -1,4 +1,6 @@
 // The state of a store beside its work area, and what every call on it asks first: 01, 'Opening', 'Refusals from the state'.
+#![tactic(auto)]
+
 mod ready;
 mod sound;
 mod state;

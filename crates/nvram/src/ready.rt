@@ -7,7 +7,7 @@ use super::state::{Kind, Nvram};
 use bank::Variable;
 
 // Refused by a number, or where the active bank's records begin and end in the work area.
-#[derive(Drop)]
+#[derive(Clone, Copy)]
 pub enum Ready {
     Refused(u32),
     Records(usize, usize),

@@ -6,7 +6,7 @@ ghost use Rattle.nvram.specs.Contract.{no_state};
 use tally::Tally;
 
 // What a slot is.
-#[derive(Drop)]
+#[derive(Clone, Copy)]
 pub enum Kind {
     Empty,
     Invalid,
@@ -14,7 +14,7 @@ pub enum Kind {
 }
 
 // A bank's entry; total and usable are 0 unless it is Valid.
-#[derive(Drop)]
+#[derive(Clone, Copy)]
 pub struct Entry {
     pub kind: Kind,
     pub total: u32,
@@ -22,7 +22,7 @@ pub struct Entry {
 }
 
 // n banks, of which one is active, and the erase requests since opening.
-#[derive(Drop)]
+#[derive(Clone, Copy)]
 pub struct Nvram {
     pub n: u32,
     pub active: u32,

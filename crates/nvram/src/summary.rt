@@ -6,7 +6,7 @@ use bank::StoreHeader;
 use records::Figures;
 
 // A Valid bank's header and what its records come to; zeros for any other slot, and for records that were not to be counted.
-#[derive(Drop)]
+#[derive(Clone, Copy)]
 pub struct Summary {
     pub header: StoreHeader,
     pub used: Figures,
@@ -39,7 +39,7 @@ impl Summary {
 }
 
 // Whether all is sound, and the summary of the bank that was looked at: in a table, the active one.
-#[derive(Drop)]
+#[derive(Clone, Copy)]
 pub struct Soundness {
     pub sound: bool,
     pub bank: Summary,

@@ -10,7 +10,7 @@ use super::figures::Figures;
 use bank::{VarHeader, Variable};
 
 // What a check answers: whether all is sound, and what the records come to; nothing where it is not, or where none were to be counted.
-#[derive(Drop)]
+#[derive(Clone, Copy)]
 pub struct Checked {
     pub sound: bool,
     pub used: Figures,
@@ -28,7 +28,7 @@ impl Checked {
 }
 
 // Where the record at a place ends, or that none stands there.
-#[derive(Drop)]
+#[derive(Clone, Copy)]
 enum Next {
     Onward(usize),
     Stop,

@@ -9,14 +9,14 @@ ghost use Rattle.records.specs.Records.{Holds, deleted_at, located};
 use bank::{VarHeader, VarType, Variable};
 
 // A value's place in the work area, and its length.
-#[derive(Drop)]
+#[derive(Clone, Copy)]
 pub struct Found {
     pub place: usize,
     pub long: usize,
 }
 
 // A value, or nothing.
-#[derive(Drop)]
+#[derive(Clone, Copy)]
 pub enum Located {
     At(Found),
     Nothing,

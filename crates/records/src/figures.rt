@@ -6,7 +6,7 @@ ghost use Rattle.records.specs.Figures.{no_figures, figures_by, plus};
 
 use bank::Variable;
 
-#[derive(Drop)]
+#[derive(Clone, Copy)]
 pub struct Figures {
     pub system: usize,
     pub common: usize,

@@ -1,4 +1,6 @@
 // The records of one bank in the work area: checked and counted, and edited.
+#![tactic(auto)]
+
 mod check;
 mod edit;
 mod figures;

@@ -13,7 +13,7 @@ use Rattle.leb128.specs.Leb128.{encoded, decoded, by_number, decoded_all}
 use Rattle.leb128.proofs.Decoding.{by_decoded, decoded_leads, decoded_inside}
 use Rattle.run_log.specs.declared.answer.Counted.{Counted}
 use Rattle.run_log.specs.declared.reader.LogEntry.TheVariants.{Bad, Run}
-use Rattle.run_log.specs.Result.{Result, refused_by, gives, prefixed, answer_of, given, Answered}
+use Rattle.run_log.specs.Result.{Result, refused_by, gives, prefixed, answer_of, Answered}
 use Rattle.run_log.specs.RunLog.{read_entry, and_then, read_entries, read_log, reading}
 use Rattle.run_log.proofs.Results.{Shows, is_refused, is_given, shown, fit_short, fit_room, accepted_gives, refused_answered, refused_judged, gives_answered}
 use Rattle.run_log.proofs.Entries.{EntryShows, entry_shows, whole_inside, Entered, entries_show}
@@ -147,8 +147,8 @@ module _ (s out : List ℕ) (a : Counted) (e : a ≡ answer_of 3 (read_log s)) w
       pub from_inside : from ≤ length s
       from_inside = omega (arith, ends, (decoded_inside s t.counts).1)
 
-      values : decoded_all (3 * a.count) (drop from s) ≡ c.ns
-      values =
+      pub accepted_values : decoded_all (3 * a.count) (drop from s) ≡ c.ns
+      accepted_values =
           ap (λ (n : ℕ). decoded_all (3 * n) (drop from s)) (sym counts) ∙ ap (λ (n : ℕ). decoded_all (3 * t.count) (drop n s)) (sym ends)
           ∙ t.entered.values
 
@@ -156,4 +156,4 @@ module _ (s out : List ℕ) (a : Counted) (e : a ≡ answer_of 3 (read_log s)) w
           → Answered 3 (reading s (length out)) out a u
       unfolding reading
       read_given l q =
-          gives_answered 3 (fit_room (length out) c.is (omega (arith, c.count))) (e ∙ ap (answer_of 3) c.is) (q ∙ ap (λ (x : List ℕ). over 0 x out) values)
+          gives_answered 3 (fit_room (length out) c.is (omega (arith, c.count))) (e ∙ ap (answer_of 3) c.is) (q ∙ ap (λ (x : List ℕ). over 0 x out) accepted_values)

@@ -59,7 +59,7 @@ accepted_gives unit {a = a} l (is_refused {k} h) e z = absurd (let n : a.number 
 accepted_gives unit l (is_given {ys} h) e z = (ys, refl)
 
 -- any other number: nothing was
-refused_by_lem : (unit : ℕ) (r : Result) {a : Counted} → a ≡ answer_of unit r → (a.number ≡ 0 → ⊥) → (k : ℕ) × (r ≡ refused_by k)
+pub refused_by_lem : (unit : ℕ) (r : Result) {a : Counted} → a ≡ answer_of unit r → (a.number ≡ 0 → ⊥) → (k : ℕ) × (r ≡ refused_by k)
 unfolding answer_of
 refused_by_lem unit (refused_by k) e h = (k, refl)
 refused_by_lem unit (gives xs) e h = absurd (h (ap (λ (c : Counted). c.number) e))

@@ -12,7 +12,7 @@ use Rattle.buffers.specs.Bytes.{over}
 use Rattle.buffers.proofs.Laws.{by_test}
 use Rattle.buffers.proofs.OverLaws.{over_over}
 use Rattle.leb128.specs.Leb128.{encoded, encoded_all}
-use Rattle.run_log.specs.Result.{refused_by, gives, answer_of, given, Answered}
+use Rattle.run_log.specs.Result.{refused_by, gives, answer_of, Answered}
 use Rattle.run_log.specs.RunLog.{log_bytes, falls, write_log, writing}
 use Rattle.run_log.proofs.Results.{Shows, is_refused, is_given, fit_refused, fit_short, fit_room, refused_answered, gives_answered}
 

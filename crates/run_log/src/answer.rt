@@ -5,7 +5,7 @@ ghost use Rattle.std.specs.Prelude.{◌≡◌};
 pub const MOST: usize = 4096;
 
 // A refusal's number, or 0, and how many entries were read or bytes written, 0 where refused.
-#[derive(Drop)]
+#[derive(Clone, Copy)]
 pub struct Counted {
     pub number: u32,
     pub count: usize,

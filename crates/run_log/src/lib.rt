@@ -1,4 +1,6 @@
 // The log of winding runs, read and written: 02, N6. It knows nothing of the store, whose value it is.
+#![tactic(auto)]
+
 mod answer;
 mod reader;
 mod writer;

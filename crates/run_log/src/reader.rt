@@ -7,7 +7,7 @@ use super::answer::{Counted, MOST, refused};
 use leb128::{Decoded, decode, decode_all, encoded_len};
 
 // A run's start minute, length in seconds and weight turns, and how many bytes they take; or a refusal's number.
-#[derive(Drop)]
+#[derive(Clone, Copy)]
 pub enum LogEntry {
     Bad(u32),
     Run(u32, u32, u32, usize),

@@ -1,4 +1,6 @@
 // Whether two banks hold the same settings, whatever bytes reading ignores: request N1.
+#![tactic(auto)]
+
 ghost use Rattle.std.specs.Prelude.{◌≡◌, Bool, false, ◌&&◌, ℕ, ◌≤◌, eqb, length, get_or};
 ghost use Rattle.crc32.specs.Table.{IsTables};
 ghost use Rattle.bank.specs.declared.header.Head.TheVariants.{Good};
@@ -11,7 +13,7 @@ ghost use Rattle.settings.specs.Same.{same_header, alike_at, ends_at, size_here,
 use bank::{Head, Partition, StoreHeader, VarHeader, Variable};
 
 // 14 where a bank is not 65,536 bytes, else 0; and yes or no.
-#[derive(Drop)]
+#[derive(Clone, Copy)]
 pub struct Compared {
     pub number: u32,
     pub same: bool,
@@ -148,7 +150,7 @@ fn same_slots(one: &[u8], other: &[u8]) -> bool
 }
 
 // Whether two banks of 65,536 bytes are both Valid, with equal header fields and equal records in order. That is yes just where both are Valid
-// and would be written with equal bytes: proofs/Written.antt, `same-written`.
+// and would be written with equal bytes: proofs/Written.antt, `same_written`.
 pub fn same_settings(one: &[u8], other: &[u8]) -> Compared
     ensures { result ≡ compared one.now other.now }
 {
