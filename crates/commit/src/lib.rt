@@ -1,4 +1,6 @@
 // The commit: 01, 'A commit, from the entry down'; the careful one: 02, N4; and who commits: 02, N7.
+#![tactic(auto)]
+
 ghost use Rattle.std.specs.Prelude.{◌≡◌, ◌+◌, ◌*◌, ◌≤◌, ◌<◌, length};
 ghost use Rattle.book.specs.Commit.{judge as judgeOf, carefully as carefullyOf, judge_as, raised as raisedOf};
 ghost use Rattle.nvram.specs.Ready.{active_entry};
@@ -12,14 +14,14 @@ use requests::{Applied, Erase, moved, refused, request, write};
 use tally::Caller;
 
 // As the Rust commits, or with the live total worked out before a move, so that every refusal asks for nothing and changes nothing.
-#[derive(Drop)]
+#[derive(Clone, Copy)]
 pub enum Way {
     Old,
     Careful,
 }
 
 // Refused by a number, written where it is, or moved.
-#[derive(Drop)]
+#[derive(Clone, Copy)]
 enum Judged {
     Refuse(u32),
     InPlace,

@@ -1,4 +1,6 @@
 // What the active bank's records come to: 02, N3. The check for refusal 6 has added it up.
+#![tactic(auto)]
+
 ghost use Rattle.std.specs.Prelude.{◌≡◌, []};
 ghost use Rattle.records.specs.Figures.{no_figures};
 ghost use Rattle.book.specs.Call.{figures, summed};
@@ -8,7 +10,7 @@ use nvram::{Kind, Nvram, check};
 use records::Figures;
 
 // A refusal's number, or 0, and the figures, zeros where refused.
-#[derive(Drop)]
+#[derive(Clone, Copy)]
 pub struct Summed {
     pub number: u32,
     pub used: Figures,

@@ -1,4 +1,6 @@
 // The move of a bank to another part of the work area, or onto itself: 01, 'A commit, from the entry down'.
+#![tactic(auto)]
+
 ghost use Rattle.std.specs.Prelude.{◌≡◌, List, ◌+◌, ◌-◌, ◌≤◌, length, take, drop};
 ghost use Rattle.buffers.specs.Bytes.{over};
 ghost use Rattle.bank.specs.Record.{Record, live, sizes, records_bytes};

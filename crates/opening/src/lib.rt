@@ -1,4 +1,6 @@
 // Opening an image: 01, 'Opening'.
+#![tactic(auto)]
+
 ghost use Rattle.std.specs.Prelude.{◌≡◌, List, ◌∷◌, ◌++◌, suc, ◌+◌, ◌*◌, ◌≤◌, ◌<◌, ltb, length, take, drop};
 ghost use Rattle.tally.specs.Tally.{no_tally};
 ghost use Rattle.bank.specs.Bank.{Slot as Read, part_of};
@@ -14,14 +16,14 @@ use nvram::{Entry, Kind, Nvram, no_banks, no_state};
 use tally::Tally;
 
 // A refusal's number, or 0, and the state; a refused opening gives zeros and Empty slots.
-#[derive(Drop)]
+#[derive(Clone, Copy)]
 pub struct Opened {
     pub number: u32,
     pub state: Nvram,
 }
 
 // The active bank among those read so far, and the best generation.
-#[derive(Drop)]
+#[derive(Clone, Copy)]
 struct Best {
     active: u32,
     generation: u32,

@@ -1,4 +1,6 @@
 // What a commit asks of the flash, and the state after it: 01, 'A commit, from the entry down'.
+#![tactic(auto)]
+
 ghost use Rattle.std.specs.Prelude.{◌≡◌, ◌++◌, ◌+◌, ◌*◌, ◌≤◌, ◌<◌, length, take, drop};
 ghost use Rattle.std.proofs.Math.Option.{some};
 ghost use Rattle.tally.specs.Tally.{counted};
@@ -13,14 +15,14 @@ use nvram::{Entry, Kind, Nvram};
 use tally::{Caller, Tally};
 
 // Nothing is to be erased, or the bank at an offset.
-#[derive(Drop)]
+#[derive(Clone, Copy)]
 pub enum Erase {
     Nothing,
     At(usize),
 }
 
 // A refusal's number, or 0; the erase request; the write's offset and its length in the output; and the state after.
-#[derive(Drop)]
+#[derive(Clone, Copy)]
 pub struct Applied {
     pub number: u32,
     pub erase: Erase,

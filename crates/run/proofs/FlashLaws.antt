@@ -1,6 +1,6 @@
 -- What an erase and a write leave of the flash: one bank is replaced and the others stay (`erased_bank`, `written_bank`). A write ANDs, so onto 0xFF
 -- it comes out as it is (`ands_ff`), and onto any bytes what can be read has no greater generation (`generation_below`).
-use Prim.Native.Nat.{ℕ, ◌+◌, ◌-◌, ◌≤◌, ◌<◌, zero, suc, ◌*◌}
+use Prim.Native.Nat.{ℕ, ◌+◌, ◌≤◌, ◌<◌, zero, suc, ◌*◌}
 use mathlib.Core.Path.{◌≡◌, refl, ap, ◌∙◌, sym, ap₂, subst}
 use mathlib.Core.List.{List, ◌++◌, [], ◌∷◌, append-nil}
 use mathlib.Core.Logic.{◌≢◌}

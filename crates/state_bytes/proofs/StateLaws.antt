@@ -13,6 +13,7 @@ use Rattle.crc32.specs.Crc32.{Bytes}
 use Rattle.buffers.proofs.BelowLaws.{below_drop}
 use Rattle.buffers.proofs.Laws.{clash}
 use Rattle.tally.specs.declared.Caller.TheVariants.{Clock, Barrel}
+use Rattle.tally.specs.Tally.{tally_of}
 use Rattle.bank.specs.Number.{u32_at, le32}
 use Rattle.bank.proofs.NumberLaws.{u32_sum, u32_lt}
 use Rattle.bank.proofs.Normal.{u32_split}
@@ -226,7 +227,7 @@ read_state_fine bs s k e =
     record {
       n_fits = u32_lt bs 0 k;
       active_fits = u32_lt bs 4 k;
-      tally_fine = λ caller. elim caller [ Clock ↦ u32_lt bs 8 k | Barrel ↦ u32_lt bs 12 k ];
+      tally_fine = λ caller. elim caller as (λ caller. tally_of caller (state_at bs).tally < 4294967296) [ Clock ↦ u32_lt bs 8 k | Barrel ↦ u32_lt bs 12 k ];
       banks_long = length_read 16 (drop state_head bs);
       banks_fine = read_entries_fine 16 (drop state_head bs) (below_drop state_head bs k);
     } in

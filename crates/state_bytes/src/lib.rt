@@ -1,4 +1,6 @@
 // The state as bytes; specs/State has the layout.
+#![tactic(auto)]
+
 ghost use Rattle.std.specs.Prelude.{◌≡◌, ◌+◌, ◌≤◌, length};
 ghost use Rattle.std.proofs.Math.Option.{none};
 ghost use Rattle.buffers.specs.Bytes.{over};
@@ -17,7 +19,7 @@ const ENTRY: usize = 12;
 pub const STATE: usize = HEAD + 16 * ENTRY;
 
 // A state, or zeros where the bytes hold none.
-#[derive(Drop)]
+#[derive(Clone, Copy)]
 pub struct Loaded {
     pub ok: bool,
     pub state: Nvram,

@@ -13,14 +13,14 @@ use nvram::{Entry, Kind, Nvram, Ready};
 use records::{append, delete_all};
 
 // Whose insert it is: the clock's, which is the Rust's, or the chime barrels', whose controller has 512 bytes for a value.
-#[derive(Drop)]
+#[derive(Clone, Copy)]
 pub enum Manner {
     Plain,
     Barrel,
 }
 
 // A refusal's number, or 0, and the state after.
-#[derive(Drop)]
+#[derive(Clone, Copy)]
 pub struct Edited {
     pub number: u32,
     pub state: Nvram,

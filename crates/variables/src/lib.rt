@@ -1,4 +1,6 @@
 // Inserts, removes and lookups: 01, 'Edits and lookups'.
+#![tactic(auto)]
+
 mod edit;
 mod lookup;
 

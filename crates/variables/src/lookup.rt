@@ -9,7 +9,7 @@ use nvram::{Nvram, Ready};
 use records::{Found, Located, find};
 
 // Found, nothing, or refused by a number.
-#[derive(Drop)]
+#[derive(Clone, Copy)]
 pub enum Lookup {
     At(Found),
     Nothing,

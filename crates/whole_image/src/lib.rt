@@ -1,4 +1,6 @@
 // The whole image: 01, 'Edits and lookups'.
+#![tactic(auto)]
+
 ghost use Rattle.std.specs.Prelude.{◌≡◌, false, List, ◌++◌, ◌*◌, ◌≤◌, ◌<◌, length, get_or, take, drop};
 ghost use Rattle.bank.specs.Bank.{Slot, invalid};
 ghost use Rattle.book.specs.Book.{slot_size};
@@ -11,7 +13,7 @@ use bank::{Head, Partition, StoreHeader};
 use nvram::{Kind, Nvram, is_sound};
 
 // A refusal's number, or 0, and the length of the image in the output.
-#[derive(Drop)]
+#[derive(Clone, Copy)]
 pub struct Serialized {
     pub number: u32,
     pub length: usize,
