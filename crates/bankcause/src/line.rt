@@ -1,8 +1,7 @@
 // The line that names a cause: request N2.
 ghost use Rattle.std.specs.Prelude.{◌≡◌, [], ◌∷◌};
-ghost use Rattle.io.specs.Counts.{IsPrefixLen};
 ghost use Rattle.text.specs.Text.{decimal, line};
-ghost use Rattle.text.specs.Put.{Room, Put, printed_length, printed_out};
+ghost use Rattle.text.specs.Put.{Room, Put, IsPrefixLen, printed_length, printed_out};
 ghost use Rattle.cause.specs.Cause.{cause_of};
 ghost use Rattle.bankcause.specs.Line.{cause_line, line_size};
 
@@ -20,6 +19,7 @@ fn put_spot(out: &mut [u8], at: usize, spot: Spot) -> usize
     put_number(out, at, spot.index as u64, FEED)
 }
 
+#[tactic(auto, unfolding(crate::specs::Line::cause_line, text::specs::Text::field, text::specs::Text::line, text::specs::Text::decimal, text::specs::Text::decimal_by, text::specs::Text::digit))]
 fn put_cause(out: &mut [u8], cause: Cause) -> usize
     requires { Room 0 (cause_line cause) out.old }
     ensures { Put 0 result (cause_line cause) out.old out.new }

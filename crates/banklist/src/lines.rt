@@ -17,6 +17,7 @@ pub(crate) fn bank_line(out: &mut [u8], at: usize, h: StoreHeader) -> usize
     put_number(out, at, h.common_size as u64, FEED)
 }
 
+#[tactic(auto, unfolding(crate::specs::Listing::type_word, text::specs::Text::field))]
 fn put_type(out: &mut [u8], at: usize, typ: VarType) -> usize
     requires { Room at (field (type_word typ) 0x20) out.old }
     ensures { Put at result (field (type_word typ) 0x20) out.old out.new }
@@ -27,6 +28,7 @@ fn put_type(out: &mut [u8], at: usize, typ: VarType) -> usize
     }
 }
 
+#[tactic(auto, using(crate::proofs::KeyLaws::key_none, crate::proofs::KeyLaws::key_some), unfolding(text::specs::Text::field))]
 fn put_key(out: &mut [u8], at: usize, key: &[u8]) -> usize
     requires { Room at (field (key_word key.now) 0x20) out.old }
     ensures { Put at result (field (key_word key.now) 0x20) out.old out.new }

@@ -1,11 +1,10 @@
 // A bank's listing: 01, 'Bench cases'.
 ghost use Rattle.std.specs.Prelude.{◌≡◌, length};
-ghost use Rattle.io.specs.Counts.{IsPrefixLen};
 ghost use Rattle.bank.specs.Bank.{Bank, valid, bank_size};
 ghost use Rattle.bank.specs.Read.{read_bank};
 ghost use Rattle.bank.specs.Totals.{total as total_of};
 ghost use Rattle.bank.specs.Answer.{partition_of};
-ghost use Rattle.text.specs.Put.{Room, Put, printed_length, printed_out};
+ghost use Rattle.text.specs.Put.{Room, Put, IsPrefixLen, printed_length, printed_out};
 ghost use Rattle.banklist.specs.Listing.{record_lines, bank_lines, listing as listingOf, out_size};
 
 use super::lines::{bank_line, record_line, used_line};

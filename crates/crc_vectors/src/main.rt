@@ -1,7 +1,9 @@
 // Compares both forms of the checksum with the published CRC-32 vectors, and with zlib's values at lengths around each boundary of the
 // forms: a line a vector, then the count.
-use libc::STDOUT_FILENO;
+#![tactic(auto)]
+
 use score::Score;
+use std::io;
 
 // zlib's CRC-32 of the bytes 0, 1, 2, .., 255, 0, .. up to each length; that of 32 is published too.
 const LENGTHS: [usize; 26] = [
@@ -17,97 +19,95 @@ const CRCS: [u32; 26] = [
 ];
 
 // Both forms against the value, and the start of the line that says so.
-fn compare(t: &[u32; 4096], bytes: &[u8], want: u32) -> bool {
+fn compare(rt: &impl Print, t: &[u32; 4096], bytes: &[u8], want: u32) -> io::Result<bool> {
     let right = (crc32::crc32(bytes) == want) & (crc32::crc32_with(t, bytes) == want);
-    io::print_hex(STDOUT_FILENO, want as u64, 8);
-    if right {
-        io::write_all(STDOUT_FILENO, b" right ");
-    } else {
-        io::write_all(STDOUT_FILENO, b" WRONG ");
-    }
-    right
+    let word = if right { "right" } else { "WRONG" };
+    print!(rt; "{want:08x} {word} ")?;
+    Ok(right)
 }
 
-fn named(t: &[u32; 4096], name: &[u8], bytes: &[u8], want: u32) -> bool {
-    let right = compare(t, bytes, want);
-    io::write_all(STDOUT_FILENO, name);
-    io::write_all(STDOUT_FILENO, b"\n");
-    right
+fn named(
+    rt: &impl Print,
+    t: &[u32; 4096],
+    name: &str,
+    bytes: &[u8],
+    want: u32,
+) -> io::Result<bool> {
+    let right = compare(rt, t, bytes, want)?;
+    println!(rt; "{name}")?;
+    Ok(right)
 }
 
-fn text(t: &[u32; 4096], bytes: &[u8], want: u32) -> bool {
-    named(t, bytes, bytes, want)
+fn text(rt: &impl Print, t: &[u32; 4096], words: &str, want: u32) -> io::Result<bool> {
+    named(rt, t, words, words.as_bytes(), want)
 }
 
 // One byte n times.
-fn same(t: &[u32; 4096], name: &[u8], byte: u8, want: u32) -> bool {
+fn same(rt: &impl Print, t: &[u32; 4096], name: &str, byte: u8, want: u32) -> io::Result<bool> {
     let bytes = [byte; 32];
-    named(t, name, &bytes, want)
+    named(rt, t, name, &bytes, want)
 }
 
-fn published(t: &[u32; 4096]) -> Score {
+fn published(rt: &impl Print, t: &[u32; 4096]) -> io::Result<Score> {
     let mut score = Score { right: 0, wrong: 0 };
-    score = score.add(named(t, b"the empty string", b"", 0));
-    score = score.add(text(t, b"123456789", 0xCBF43926));
-    score = score.add(text(t, b"a", 0xE8B7BE43));
-    score = score.add(text(t, b"abc", 0x352441C2));
-    score = score.add(text(t, b"message digest", 0x20159D7F));
-    score = score.add(text(t, b"abcdefghijklmnopqrstuvwxyz", 0x4C2750BD));
+    score = score.add(named(rt, t, "the empty string", b"", 0)?);
+    score = score.add(text(rt, t, "123456789", 0xCBF43926)?);
+    score = score.add(text(rt, t, "a", 0xE8B7BE43)?);
+    score = score.add(text(rt, t, "abc", 0x352441C2)?);
+    score = score.add(text(rt, t, "message digest", 0x20159D7F)?);
+    score = score.add(text(rt, t, "abcdefghijklmnopqrstuvwxyz", 0x4C2750BD)?);
     score = score.add(text(
+        rt,
         t,
-        b"ABCDEFGHIJKLMNOPQRSTUVWXYZabcdefghijklmnopqrstuvwxyz0123456789",
+        "ABCDEFGHIJKLMNOPQRSTUVWXYZabcdefghijklmnopqrstuvwxyz0123456789",
         0x1FC2E6D2,
-    ));
+    )?);
     score = score.add(text(
+        rt,
         t,
-        b"12345678901234567890123456789012345678901234567890123456789012345678901234567890",
+        "12345678901234567890123456789012345678901234567890123456789012345678901234567890",
         0x7CA94A72,
-    ));
+    )?);
     score = score.add(text(
+        rt,
         t,
-        b"The quick brown fox jumps over the lazy dog",
+        "The quick brown fox jumps over the lazy dog",
         0x414FA339,
-    ));
-    score = score.add(named(t, b"PNG's chunk type IEND", b"IEND", 0xAE426082));
-    score = score.add(same(t, b"32 zeros", 0, 0x190A55AD));
-    score = score.add(same(t, b"32 bytes of 0xFF", 0xFF, 0xFF6CAB0B));
-    score
+    )?);
+    score = score.add(named(rt, t, "PNG's chunk type IEND", b"IEND", 0xAE426082)?);
+    score = score.add(same(rt, t, "32 zeros", 0, 0x190A55AD)?);
+    score = score.add(same(rt, t, "32 bytes of 0xFF", 0xFF, 0xFF6CAB0B)?);
+    Ok(score)
 }
 
 fn upward() -> [u8; 4097] {
     let mut bytes = [0u8; 4097];
-    let mut i: usize = 0;
-    while i < 4097 {
-        bytes[i] = (i % 256) as u8;
-        i += 1;
+    for (i, byte) in bytes.iter_mut().enumerate() {
+        *byte = (i % 256) as u8;
     }
     bytes
 }
 
-fn prefix(t: &[u32; 4096], bytes: &[u8], n: usize, want: u32) -> bool {
+fn prefix(rt: &impl Print, t: &[u32; 4096], bytes: &[u8], n: usize, want: u32) -> io::Result<bool> {
     if bytes.len() < n {
-        return false;
+        return Ok(false);
     }
-    let right = compare(t, &bytes[0..n], want);
-    io::write_all(STDOUT_FILENO, b"upward bytes, ");
-    io::print_decimal(STDOUT_FILENO, n as u64);
-    io::write_all(STDOUT_FILENO, b"\n");
-    right
+    let right = compare(rt, t, &bytes[0..n], want)?;
+    println!(rt; "upward bytes, {n}")?;
+    Ok(right)
 }
 
-fn lengths(start: Score, t: &[u32; 4096]) -> Score {
+fn lengths(rt: &impl Print, start: Score, t: &[u32; 4096]) -> io::Result<Score> {
     let bytes = upward();
     let mut score = start;
-    let mut i: usize = 0;
-    while i < 26 {
-        score = score.add(prefix(t, &bytes, LENGTHS[i], CRCS[i]));
-        i += 1;
+    for (n, want) in LENGTHS.iter().zip(&CRCS) {
+        score = score.add(prefix(rt, t, &bytes, *n, *want)?);
     }
-    score
+    Ok(score)
 }
 
-fn main() {
+fn main(rt: HostRuntime) -> io::Result<()> {
     let t = crc32::tables();
-    let score = lengths(published(&t), &t);
-    score.print();
+    let score = lengths(&rt, published(&rt, &t)?, &t)?;
+    score.print(&mut io::writer(&rt))
 }

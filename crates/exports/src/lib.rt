@@ -1,4 +1,6 @@
 // Entry points for C and Rust. A slice crosses as a pointer and a length, an array as a pointer.
+#![tactic(auto)]
+
 mod causes;
 mod checksum;
 mod log;

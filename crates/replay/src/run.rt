@@ -9,7 +9,6 @@ use super::fields::{decimal, end, field, hex, put_bytes};
 use bank::Partition;
 use commit::Way;
 use nvram::Nvram;
-use std::num::wrapping_add_usize;
 use variables::{Edited, Manner};
 
 pub(crate) const FEED: u8 = b'\n';
@@ -96,7 +95,7 @@ impl Walk {
         let long = put_part(image, self.long, count, byte, field(line, k + 1));
         let state = self.state;
         Walk {
-            right: self.right & (long == wrapping_add_usize(self.long, count)),
+            right: self.right & (long == self.long.wrapping_add(count)),
             long,
             state,
         }

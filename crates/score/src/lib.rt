@@ -1,8 +1,11 @@
 // What a program that checks answers counts, and says last.
-ghost use Rattle.std.specs.Prelude.{◌≡◌, ◌+◌, ◌%◌, ◌^◌, if◌then◌else◌};
+#![tactic(auto)]
 
-use libc::STDOUT_FILENO;
-use std::num::wrapping_add_u64;
+ghost use Rattle.std.specs.Prelude.{◌≡◌, ◌+◌, ◌%◌, ◌^◌, if◌then◌else◌, ◌++◌, OnOk, decimal, codes};
+ghost use Rattle.std.specs.Io.KnownBytes.{Appends};
+
+use std::io;
+use std::io::Write;
 
 #[derive(Drop)]
 pub struct Score {
@@ -12,25 +15,27 @@ pub struct Score {
 
 impl Score {
     pub fn add(self, right: bool) -> Score
-        ensures { (result.right ≡ (if right then (self.right + 1) % 2 ^ 64 else self.right)) × (result.wrong ≡ (if right then self.wrong else (self.wrong + 1) % 2 ^ 64)) }
+        ensures right { result.right ≡ (if right then (self.right + 1) % 2 ^ 64 else self.right) }
+        ensures wrong { result.wrong ≡ (if right then self.wrong else (self.wrong + 1) % 2 ^ 64) }
     {
         if right {
             Score {
-                right: wrapping_add_u64(self.right, 1),
+                right: self.right.wrapping_add(1),
                 wrong: self.wrong,
             }
         } else {
             Score {
                 right: self.right,
-                wrong: wrapping_add_u64(self.wrong, 1),
+                wrong: self.wrong.wrapping_add(1),
             }
         }
     }
 
-    pub fn print(self) {
-        io::print_decimal(STDOUT_FILENO, self.right);
-        io::write_all(STDOUT_FILENO, b" right, ");
-        io::print_decimal(STDOUT_FILENO, self.wrong);
-        io::write_all(STDOUT_FILENO, b" wrong\n");
+    pub fn print<W: Write>(self, to: &mut W) -> io::Result<()>
+        ensures { OnOk result (Appends (W.contents to.old) (W.contents to.new) (decimal self.right ++ codes " right, " ++ decimal self.wrong ++ codes " wrong\n")) }
+    {
+        let right = self.right;
+        let wrong = self.wrong;
+        writeln!(to, "{right} right, {wrong} wrong")
     }
 }

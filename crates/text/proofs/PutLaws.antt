@@ -5,14 +5,13 @@ use mathlib.Core.Path.{◌≡◌, refl, sym, ap, ◌∙◌}
 use mathlib.Core.List.{List, [], ◌∷◌, ◌++◌}
 use native.Mathlib.Omega.{arith}
 use lib.ListN.{length, take, drop, set, length-append}
+use lib.Seq.{length-take-le}
 use borrow.Author.Tests.{le-leb, lt-leb}
 use borrow.Rule.Slice.PartMut.{put_mid}
-use Rattle.io.specs.Counts.{IsPrefixLen}
-use Rattle.io.proofs.Counting.{prefix_len_of_le}
 use Rattle.buffers.specs.Bytes.{onto, over}
 use Rattle.buffers.proofs.OverLaws.{length_over, over_none, over_over, over_set, over_copy}
 use Rattle.text.specs.Text.{field, line}
-use Rattle.text.specs.Put.{Room, Put, printed_length, printed_out}
+use Rattle.text.specs.Put.{Room, Put, IsPrefixLen, printed_length, printed_out}
 
 pub length_put : {at p : ℕ} {x w u : List ℕ} → Put at p x w u → length u ≡ length w
 length_put {at} {p} {x} {w} {u} a = ap length a.left ∙ length_over at x w (omega arith)
@@ -73,6 +72,9 @@ next {g = g} {fs = fs} a r = record { all = back (line (g ∷ fs)) a r.all }
 pub last : {at : ℕ} {f w : List ℕ} → Rooms at (f ∷ []) w → Room at (field f 0x0A) w
 unfolding line
 last r = r.all
+
+prefix_len_of_le : (n : ℕ) (xs : List ℕ) → n ≤ length xs → IsPrefixLen n xs
+prefix_len_of_le n xs h = (h, sym (length-take-le n xs h))
 
 -- a text x at the front of w, where n bytes are enough for it
 module _ (n : ℕ) (x w : List ℕ) where

@@ -1,17 +1,17 @@
--- Digits: of bytes in hexadecimal, as a loop puts them (`hex_put`, `hex_room`), and of a number in decimal: what `io::decimal` leaves is `decimal`
--- (`decimal_digits`). Their lengths (`decimal_short`), and those of a line.
+-- Digits: of bytes in hexadecimal, as a loop puts them (`hex_put`, `hex_room`), and of a number in decimal: std's text of it is `decimal`
+-- (`decimal_text`). Their lengths (`decimal_short`), and those of a line.
 use Prim.Native.Nat.{ℕ, zero, suc, ◌+◌, ◌-◌, ◌*◌, ◌/◌, ◌%◌, ◌^◌, ◌≤◌, ◌<◌}
-use mathlib.Core.Path.{◌≡◌, refl, ap, ◌∙◌}
-use mathlib.Core.List.{List, [], ◌∷◌, ◌++◌}
+use mathlib.Core.Path.{◌≡◌, refl, sym, ap, ◌∙◌}
+use mathlib.Core.List.{List, [], ◌∷◌, ◌++◌, append_assoc, append-nil}
 use mathlib.Core.Bool.{Bool, true, false, cond}
-use native.Mathlib.Nat.{pow-succ', one-le-pow}
+use native.Mathlib.Nat.{pow-succ'}
 use native.Mathlib.Omega.{arith}
 use native.Mathlib.Numerals.{add-one}
-use lib.Dec.{lit≤, ltb}
+use lib.Dec.{ltb, eqb}
 use lib.ListN.{length, get_or, take, length-append}
 use lib.Seq.{take-suc, length-take-le}
-use borrow.Author.Tests.{lt-ltb, le-ltb}
-use Rattle.io.specs.Digits.{last_digits, IsDigitCount, hex_digit_ascii}
+use borrow.Author.Tests.{lt-ltb, ltb-true, ltb-false, ne_eqb}
+use Rattle.std.specs.Fmt.{digit_glyph, digits_onto, digits, decimal as std_decimal}
 use Rattle.text.specs.Text.{digit, hex, decimal_by, decimal, field, line}
 use Rattle.text.specs.Put.{Room, Put}
 use Rattle.text.proofs.PutLaws.{length_put, join}
@@ -32,48 +32,47 @@ hex_more : (s : List ℕ) (i : ℕ) → i < length s
 unfolding hex
 hex_more s i h = rw (add-one, take-suc s i 0) (hex_append (take i s) (get_or s i 0 ∷ []))
 
--- the digit of `io` below ten
-glyph_digit : (d : ℕ) → d < 10 → hex_digit_ascii d ≡ digit d
+-- std's digit below ten
+glyph_digit : (d : ℕ) → d < 10 → digit_glyph false d ≡ digit d
 unfolding digit
 glyph_digit d h = simp (lt-ltb d 10 h)
 
-ten_le : (k n : ℕ) → IsDigitCount 10 1 n (suc (suc k)) → 10 * 10 ^ k ≤ n
-ten_le k n f =
-    let e : suc (suc k) - 1 ≡ suc k = omega arith in
-    rw (e, pow-succ') at (f.2 (omega arith))
+last_digit : (k n : ℕ) (after : List ℕ) → n < 10 → digits_onto (suc k) 10 false n after ≡ digit n ∷ after
+last_digit k n after h =
+    let q : n / 10 ≡ 0 = omega arith in
+    let r : n % 10 ≡ n = omega arith in
+    simp (q, r, glyph_digit n h)
 
-fewer : (k n : ℕ) → IsDigitCount 10 1 n (suc (suc k)) → IsDigitCount 10 1 (n / 10) (suc k)
-fewer k n f =
-    let e : suc k - 1 ≡ k = omega arith in
-    let h : n < 10 * 10 ^ suc k = rw pow-succ' at f.1 in
-    (omega arith, omega arith, λ _. rw e (omega (arith, ten_le k n f)))
+more_digits : (k n : ℕ) (after : List ℕ) → 10 ≤ n
+    → digits_onto (suc k) 10 false n after ≡ digits_onto k 10 false (n / 10) (digit (n % 10) ∷ after)
+more_digits k n after h =
+    let q : eqb (n / 10) 0 ≡ false = ne_eqb (n / 10) 0 (λ z. omega arith) in
+    simp (q, glyph_digit (n % 10) (omega arith))
 
--- as many digits as hold the number, and no fewer, are its decimal
-places : (k most n : ℕ) → n ≤ most → IsDigitCount 10 1 n (suc k) → last_digits 10 (suc k) n ≡ decimal_by most n
+-- std's digits of a number below a power of ten are its decimal
+by_tens : (k most n : ℕ) (after : List ℕ) → n ≤ most → n < 10 ^ suc k → digits_onto (suc k) 10 false n after ≡ decimal_by most n ++ after
 unfolding decimal_by
-places zero zero n l f =
-    let e : n % 10 ≡ n = omega arith in
-    ap (λ (d : ℕ). d ∷ []) (ap hex_digit_ascii e ∙ glyph_digit n (omega arith))
-places zero (suc m) n l f =
-    let h : n < 10 = f.1 in
-    let e : n % 10 ≡ n = omega arith in
-    simp (lt-ltb n 10 h) (ap (λ (d : ℕ). d ∷ []) (ap hex_digit_ascii e ∙ glyph_digit n h))
-places (suc k) zero n l f = absurd (low k n f l)
+by_tens k zero n after l h = last_digit k n after (omega arith)
+by_tens zero (suc m) n after l h = simp (lt-ltb n 10 h) (last_digit zero n after h)
+by_tens (suc k) (suc m) n after l h =
+    let b : n < 10 * 10 ^ suc k = rw pow-succ' at h in
+    split (digit n ∷ []) (decimal_by m (n / 10) ++ (digit (n % 10) ∷ [])) (ltb n 10) refl
+    (λ t. last_digit (suc k) n after (ltb-true n 10 t))
+    (λ t.
+    let g : 10 ≤ n = ltb-false n 10 t in
+    more_digits (suc k) n after g
+    ∙ by_tens k m (n / 10) (digit (n % 10) ∷ after) (omega arith) (omega arith)
+    ∙ sym (append_assoc (decimal_by m (n / 10)) (digit (n % 10) ∷ []) after))
   where
-    low : (k n : ℕ) → IsDigitCount 10 1 n (suc (suc k)) → n ≤ 0 → ⊥
-    low k n f l = omega (arith, ten_le k n f, one-le-pow k 10 (lit≤ tt))
-places (suc k) (suc m) n l f =
-    let g = ten_le k n f in
-    let t : 10 ≤ n = omega (arith, one-le-pow k 10 (lit≤ tt)) in
-    let h : n / 10 ≤ m = omega arith in
-    simp (le-ltb n 10 t)
-    (ap (λ (x : List ℕ). x ++ (hex_digit_ascii (n % 10) ∷ [])) (places k m (n / 10) h (fewer k n f))
-    ∙ ap (λ (d : ℕ). decimal_by m (n / 10) ++ (d ∷ [])) (glyph_digit (n % 10) (omega arith)))
+    split : {x : List ℕ} (a b : List ℕ) (t : Bool) → ltb n 10 ≡ t → (ltb n 10 ≡ true → x ≡ a ++ after) → (ltb n 10 ≡ false → x ≡ b ++ after)
+        → x ≡ cond t a b ++ after
+    split a b true e y z = y e
+    split a b false e y z = z e
 
-pub decimal_digits : (n k : ℕ) (x : List ℕ) → IsDigitCount 10 1 n k → x ≡ last_digits 10 k n → x ≡ decimal n
-unfolding decimal
-decimal_digits n zero x f e = absurd (omega (arith, f.0))
-decimal_digits n (suc k) x f e = e ∙ places k n n (omega arith) f
+-- std's text of a number is its decimal
+pub decimal_text : (n : ℕ) → n < 2 ^ 64 → std_decimal n ≡ decimal n
+unfolding decimal digits
+decimal_text n h = by_tens 63 n n [] (omega arith) (omega arith) ∙ append-nil (decimal_by n n)
 
 -- where the first i bytes of s are put in hexadecimal: the room left, and one byte more
 module _ {at p : ℕ} {w u : List ℕ} (s : List ℕ) (i : ℕ) (a : Put at p (hex (take i s)) w u) where

@@ -1,12 +1,17 @@
 // Text put into bytes lent: each writer puts its text from a place on, and answers the place behind it.
+#![tactic(auto)]
+
 ghost use Rattle.std.specs.Prelude.{◌≡◌, ◌<◌, [], ◌∷◌};
 ghost use Rattle.text.specs.Text.{digit as digitOf, hex, be32 as be32Of, decimal, field};
 ghost use Rattle.text.specs.Put.{Room, Put};
+
+use itoa::Buffer;
 
 pub const SPACE: u8 = b' ';
 
 pub const FEED: u8 = b'\n';
 
+#[tactic(auto, using(crate::proofs::PutLaws::put_one))]
 fn put(out: &mut [u8], at: usize, b: u8) -> usize
     requires { Room at (b ∷ []) out.old }
     ensures { Put at result (b ∷ []) out.old out.new }
@@ -15,6 +20,7 @@ fn put(out: &mut [u8], at: usize, b: u8) -> usize
     at + 1
 }
 
+#[tactic(auto, using(crate::proofs::PutLaws::put_copy))]
 pub fn put_all(out: &mut [u8], at: usize, text: &[u8]) -> usize
     requires { Room at text.now out.old }
     ensures { Put at result text.now out.old out.new }
@@ -23,6 +29,7 @@ pub fn put_all(out: &mut [u8], at: usize, text: &[u8]) -> usize
     at + text.len()
 }
 
+#[tactic(auto, unfolding(crate::specs::Text::digit))]
 fn digit(d: u8) -> u8
     requires { d < 16 }
     ensures { result ≡ digitOf d }
@@ -50,13 +57,13 @@ pub fn put_number(out: &mut [u8], at: usize, n: u64, end: u8) -> usize
     requires { Room at (field (decimal n) end) out.old }
     ensures { Put at result (field (decimal n) end) out.old out.new }
 {
-    let mut digits = [0u8; 20];
-    let k = io::decimal(n, &mut digits);
-    let at = put_all(out, at, &digits[..k]);
+    let mut digits = Buffer::new();
+    let at = put_all(out, at, digits.format(n).as_bytes());
     put(out, at, end)
 }
 
 // A number's four bytes, greatest first.
+#[tactic(auto, unfolding(crate::specs::Text::be32))]
 pub fn be32(n: u32) -> [u8; 4]
     ensures { result ≡ be32Of n }
 {

@@ -1,0 +1,14 @@
+-- `put_spot`: `first` and `last` give each number its room, and `join` makes the line of the two.
+use Rattle.text.specs.Text.{line}
+use Rattle.text.proofs.PutLaws.{join, fields, first, next, last}
+use Rattle.bankcause.proofs.line.put_spot.Goals as goal
+
+pub put_number-at-requires : goal.put_number-at-requires
+put_number-at-requires c = first (fields _ c.requires)
+
+pub put_number-requires : goal.put_number-requires
+put_number-requires c = last (next c.put_number-at.ensures (fields _ c.requires))
+
+pub returns : goal.returns
+unfolding line
+returns c = join c.put_number-at.ensures c.put_number.ensures

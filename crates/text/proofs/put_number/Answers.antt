@@ -1,0 +1,22 @@
+-- `put_number`: the digits that std writes are `decimal` (`decimal_text`); `join` puts the character behind them.
+use mathlib.Core.Path.{◌≡◌, ◌∙◌}
+use Rattle.text.specs.Text.{decimal, field}
+use Rattle.text.proofs.PutLaws.{of_field, behind_field, join}
+use Rattle.text.proofs.TextLaws.{decimal_text}
+use Rattle.text.proofs.put_number.Goals as goal
+
+pub put_all-at-requires : goal.put_all-at-requires
+put_all-at-requires c =
+    let e : c.as_bytes.result.now ≡ decimal c.args.n = c.as_bytes.ensures.value ∙ c.format.ensures.text ∙ decimal_text c.args.n c.ranges.n.fits in
+    rw e (of_field c.args.end c.requires)
+
+pub put-requires : goal.put-requires
+put-requires c =
+    let e : c.as_bytes.result.now ≡ decimal c.args.n = c.as_bytes.ensures.value ∙ c.format.ensures.text ∙ decimal_text c.args.n c.ranges.n.fits in
+    behind_field (rw e at c.put_all-at.ensures) c.requires
+
+pub returns : goal.returns
+unfolding field
+returns c =
+    let e : c.as_bytes.result.now ≡ decimal c.args.n = c.as_bytes.ensures.value ∙ c.format.ensures.text ∙ decimal_text c.args.n c.ranges.n.fits in
+    join (rw e at c.put_all-at.ensures) c.put.ensures
