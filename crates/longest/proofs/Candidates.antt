@@ -61,7 +61,10 @@ oldest_later first x y ys h o =
     let d : x ≡ largest (y ∷ ys) → ⊥ = λ q. omega arith in
     let k = index_of (largest (y ∷ ys)) (y ∷ ys) in
     let z : first + (k + 1) ≡ first + 1 + k = omega arith in
-    let e : best first (x ∷ y ∷ ys) ≡ best (first + 1) (y ∷ ys) = rw m (simp (ne_eqb x (largest (y ∷ ys)) d) (rw z refl)) in
+    let of_most : ℕ → Candidate = λ n. record { seconds = n; index = first + index_of n (x ∷ y ∷ ys) } in
+    let of_test : Bool → Candidate = λ b. record { seconds = largest (y ∷ ys); index = first + cond b 0 (k + 1) } in
+    let of_index : ℕ → Candidate = λ i. record { seconds = largest (y ∷ ys); index = i } in
+    let e : best first (x ∷ y ∷ ys) ≡ best (first + 1) (y ∷ ys) = ap of_most m ∙ ap of_test (ne_eqb x (largest (y ∷ ys)) d) ∙ ap of_index z in
     let n : (best first (x ∷ y ∷ ys)).index ≡ first → ⊥ = λ q. omega (arith, ap (λ (d : Candidate). d.index) e) in
     record {
       others = o.others;

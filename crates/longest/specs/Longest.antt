@@ -1,6 +1,6 @@
 -- The longest run of each full window of a log (02, N9).
 use Rattle.std.specs.Prelude.{ℕ, ◌+◌, max, List, [], ◌∷◌, ◌++◌, ◌||◌, cond, eqb, ltb, length, take}
-use Rattle.run_log.specs.Result.{Result, refused_by, gives, fit}
+use Rattle.run_log.specs.Result.{Result, refused_by, gives}
 use Rattle.run_log.specs.RunLog.{read_log}
 
 -- the lengths in seconds of entries, which are numbers, three in a row
@@ -37,6 +37,11 @@ slide_entries window (gives ns) = cond (ltb 1024 (length (lengths ns))) (refused
 unfoldable pub slide_log : ℕ → List ℕ → Result
 slide_log window s = cond (ltb window 1 || ltb 64 window) (refused_by 20) (slide_entries window (read_log s))
 
+-- 20 where there is less room than it takes
+unfoldable pub fit_windows : ℕ → Result → Result
+fit_windows room (refused_by k) = refused_by k
+fit_windows room (gives xs) = cond (ltb room (length xs)) (refused_by 20) (gives xs)
+
 -- and then the output
 unfoldable pub sliding : ℕ → List ℕ → ℕ → Result
-sliding window s room = fit 20 room (slide_log window s)
+sliding window s room = fit_windows room (slide_log window s)

@@ -1,4 +1,6 @@
 // The longest run of each full window of a log: 02, N9. It stands on the log's reader, and takes as long whatever the window is.
+#![tactic(auto)]
+
 mod ring;
 mod slide;
 

@@ -1,0 +1,22 @@
+-- src/ring.rt:44:13
+use native.Mathlib.Omega.{arith}
+use Prim.Native.Nat.{◌+◌, ◌*◌}
+use mathlib.Core.Path.{sym, ◌∙◌}
+use mathlib.Core.List.{[], ◌∷◌}
+use lib.ListN.{set, length-set}
+use borrow.Author.Rules.{rules}
+use Rattle.buffers.proofs.OverLaws.{over_set, over_cons}
+use Rattle.longest.proofs.ring.put_window.Reads as reads
+use Rattle.longest.proofs.ring.put_window.Lts as lts
+use Rattle.longest.proofs.ring.put_window.Goals as goal
+
+-- src/ring.rt:46:5
+pub bounds-out-p-2 : goal.bounds-out-p-2
+bounds-out-p-2 c = rw length-set (omega arith)
+
+-- src/ring.rt:40:1
+pub returns : goal.returns
+returns c = let w = c.args.out.now in
+    let p = 2 * c.args.first in
+    let q = set w p c.args.seconds in
+    over_set (p + 1) c.args.index q (rw length-set (omega arith)) ∙ sym (over_cons p c.args.seconds (c.args.index ∷ []) w (omega arith))
