@@ -1,5 +1,5 @@
 -- Records as they stand in a bank that was read, before their reserved and closing bytes are zeroed (01, 'Bank and record').
-use Rattle.std.specs.Prelude.{ℕ, ◌+◌, ◌<◌, List, [], ◌∷◌, ◌++◌, ◌≡◌, length}
+use Rattle.std.specs.Prelude.{ℕ, ◌<◌, List, [], ◌∷◌, ◌++◌, ◌≡◌, length}
 use Rattle.crc32.specs.Crc32.{crc32_of, Bytes}
 use Rattle.bank.specs.Number.{u16_at, u32_at}
 use Rattle.bank.specs.Record.{Record, record_of, name_at, size_at}
