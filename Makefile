@@ -38,4 +38,4 @@ bench:
 	@scripts/judge bench --long
 
 clean:
-	rm -rf target dist host/target host/Cargo.lock
+	rm -rf target dist host/target host/Cargo.lock crates/*/out

@@ -48,13 +48,14 @@ fenced() {
 # the crate is not proved; target/log has all of it.
 progress() {
     local crates=$1 edits=$2 proved=0 refused=0 said='' line
+    mkdir -p target
     while IFS= read -r line; do
-        if [[ $line =~ ^rt:\ ([a-z0-9_]+\ proved\ \(.*) ]]; then
+        if [[ $line =~ ^rt:\ ([a-z0-9_]+\ proved)$ ]]; then
             printf '%d of %d: %s\n' $((++proved)) "$crates" "${BASH_REMATCH[1]}"
-        elif [[ $line =~ ^rt:\ .*\ has\ the\ functions\ of\ ([a-z0-9_]+)\  ]]; then
-            printf '%d of %d: %s proved, and a library of it made\n' $((++proved)) "$crates" "${BASH_REMATCH[1]}"
-        elif [[ $line =~ ^rt:\ (must-fail\ .*:\ refused,\ .*) ]]; then
+        elif [[ $line =~ ^rt:\ (must-fail\ [^:]*:\ refused) ]]; then
             printf '%d of %d: %s\n' $((++refused)) "$edits" "${BASH_REMATCH[1]}"
+        elif [[ $line =~ ^rt:\ .*:\ trying\ its\ must-fail\ edits ]]; then
+            :
         elif [[ $line =~ ^rt:\  || $line =~ ^[0-9]+\ passed,\  ]]; then
             printf '%s%s\n' "$said" "$line"
         else
@@ -62,7 +63,7 @@ progress() {
             continue
         fi
         said=
-    done
+    done < <(tee target/log)
     printf '%s' "$said"
 }
 
@@ -71,7 +72,8 @@ proving() {
     local crates=$1 edits=$2
     shift 2
     if [ "${V:-}" = 1 ]; then
-        "$@" 2>&1
+        mkdir -p target
+        "$@" 2>&1 | tee target/log
     else
         "$@" 2>&1 | progress "$crates" "$edits"
     fi
@@ -80,18 +82,34 @@ proving() {
 # How many crates there are to prove: all that crates.txt lists, or the one named and those below it.
 crates_of() {
     local all
-    all=$(sed -n 's/^\([a-z0-9_]*\):.*/\1/p' crates.txt)
+    all=$(sed -n 's/^\([a-z0-9_]*\)\( staticlib\)\?:.*/\1/p' crates.txt)
     if [ $# -eq 0 ]; then
         wc -w <<<"$all"
     else
-        { sed -n "s/^$1: *//p" crates.txt | tr ' ' '\n'; echo "$1"; } | grep -cxF "$all"
+        { sed -n "s/^$1\( staticlib\)\?: *//p" crates.txt | tr ' ' '\n'; echo "$1"; } | grep -cxF "$all"
     fi
 }
 
+# in_crate CRATE COMMAND..: runs rt in a crate's folder, over what earlier checks of it and of the crates below left there.
+in_crate() {
+    local crate=$1
+    shift
+    (cd "crates/$crate" && "$@")
+}
+
+# target/bin/PROGRAM out of a proved program. rt makes it by running it, here on no input.
+make_program() {
+    mkdir -p target/bin
+    proving "$(crates_of "$1")" 0 in_crate "$1" rt run <<<'' && cp "crates/$1/out/$1" target/bin/
+}
+
+build_program() { step "proving and building $1" make_program "$1"; }
+
 # libfeqyondil.a out of the proved exports.
 make_library() {
-    proving "$(crates_of exports)" 0 rt staticlib exports &&
-        cp target/staticlib/libexports.a "$FEQYONDIL_LIB/libfeqyondil.a"
+    mkdir -p "$FEQYONDIL_LIB"
+    proving "$(crates_of exports)" 0 in_crate exports rt lib &&
+        cp crates/exports/out/libexports.a "$FEQYONDIL_LIB/libfeqyondil.a"
 }
 
 build_library() { step "proving the exports and making their static library" make_library; }
