@@ -44,6 +44,9 @@ fenced() {
     awk -v mark="\`\`\`$1" -v nth="${2:-1}" '/^```/ { on = 0; if ($0 == mark) on = ++seen == nth; next } on' docs/USING.md
 }
 
+# What the prover said of a crate, where that is not proved.
+unproved() { [[ $1 == *logic=proved* ]] || printf '%s' "$1"; }
+
 # progress CRATES EDITS: of what rt prints, a line for each of so many crates and edits. What the prover says of a crate is shown only where
 # the crate is not proved; target/log has all of it.
 progress() {
@@ -57,14 +60,15 @@ progress() {
         elif [[ $line =~ ^rt:\ .*:\ trying\ its\ must-fail\ edits ]]; then
             :
         elif [[ $line =~ ^rt:\  || $line =~ ^[0-9]+\ passed,\  ]]; then
-            printf '%s%s\n' "$said" "$line"
+            unproved "$said"
+            printf '%s\n' "$line"
         else
             said+=$line$'\n'
             continue
         fi
         said=
     done < <(tee target/log)
-    printf '%s' "$said"
+    unproved "$said"
 }
 
 # proving CRATES EDITS COMMAND..: runs rt so; with V=1 shows all that it prints.
@@ -90,17 +94,14 @@ crates_of() {
     fi
 }
 
-# in_crate CRATE COMMAND..: runs rt in a crate's folder, over what earlier checks of it and of the crates below left there.
-in_crate() {
-    local crate=$1
-    shift
-    (cd "crates/$crate" && "$@")
-}
+# In a crate's folder, over what earlier checks of it and of the crates below left there. rt makes a program by running it, here on a line of input.
+run_crate() { (cd "crates/$1" && rt run <<<'' >/dev/null); }
+make_crate() { (cd "crates/$1" && rt lib); }
 
-# target/bin/PROGRAM out of a proved program. rt makes it by running it, here on no input.
+# target/bin/PROGRAM out of a proved program.
 make_program() {
     mkdir -p target/bin
-    proving "$(crates_of "$1")" 0 in_crate "$1" rt run <<<'' && cp "crates/$1/out/$1" target/bin/
+    proving "$(crates_of "$1")" 0 run_crate "$1" && cp "crates/$1/out/$1" target/bin/
 }
 
 build_program() { step "proving and building $1" make_program "$1"; }
@@ -108,7 +109,7 @@ build_program() { step "proving and building $1" make_program "$1"; }
 # libfeqyondil.a out of the proved exports.
 make_library() {
     mkdir -p "$FEQYONDIL_LIB"
-    proving "$(crates_of exports)" 0 in_crate exports rt lib &&
+    proving "$(crates_of exports)" 0 make_crate exports &&
         cp crates/exports/out/libexports.a "$FEQYONDIL_LIB/libfeqyondil.a"
 }
 
