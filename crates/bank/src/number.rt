@@ -1,6 +1,6 @@
 // Stored numbers, least byte first.
 ghost use Rattle.std.specs.Prelude.{◌≡◌, ◌+◌, ◌≤◌, ◌<◌, length};
-ghost use Rattle.bank.specs.Number.{u16_at, u32_at, le32 as le32Of};
+ghost use Rattle.bank.specs.Number.{u16_at, u32_at, le32 as le32_of};
 
 fn wide16(x: u8) -> u16
     ensures { (result ≡ x) × (result < 256) }
@@ -24,7 +24,7 @@ pub(crate) fn u32_at(s: &[u8], at: usize) -> u32
 
 // The four bytes of a number.
 pub fn le32(n: u32) -> [u8; 4]
-    ensures { result ≡ le32Of n }
+    ensures { result ≡ le32_of n }
 {
     [
         (n % 256) as u8,

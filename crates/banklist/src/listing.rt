@@ -5,7 +5,7 @@ ghost use Rattle.bank.specs.Read.{read_bank};
 ghost use Rattle.bank.specs.Totals.{total as total_of};
 ghost use Rattle.bank.specs.Answer.{partition_of};
 ghost use Rattle.text.specs.Put.{Room, Put, IsPrefixLen, printed_length, printed_out};
-ghost use Rattle.banklist.specs.Listing.{record_lines, bank_lines, listing as listingOf, out_size};
+ghost use Rattle.banklist.specs.Listing.{record_lines, bank_lines, listing as listing_of, out_size};
 
 use super::lines::{bank_line, record_line, used_line};
 use bank::{Partition, Slot, VarHeader, Variable};
@@ -47,7 +47,7 @@ fn bank_lines(out: &mut [u8], nvr: &[u8], p: Partition) -> usize
 // The listing of what nvr begins with, at the front of out, and its length; 0, and out as it was, where out has fewer than OUT bytes.
 pub(crate) fn listing(nvr: &[u8], out: &mut [u8]) -> usize
     ensures prefix_len { IsPrefixLen result out.new }
-    ensures value { (result ≡ printed_length out_size (listingOf nvr.now) out.old) × (out.new ≡ printed_out out_size (listingOf nvr.now) out.old) }
+    ensures value { (result ≡ printed_length out_size (listing_of nvr.now) out.old) × (out.new ≡ printed_out out_size (listing_of nvr.now) out.old) }
 {
     if out.len() < OUT {
         return 0;

@@ -2,7 +2,7 @@
 #![tactic(auto)]
 
 ghost use Rattle.std.specs.Prelude.{◌≡◌, ◌+◌, ◌*◌, ◌≤◌, ◌<◌, length};
-ghost use Rattle.book.specs.Commit.{judge as judgeOf, carefully as carefullyOf, judge_as, raised as raisedOf};
+ghost use Rattle.book.specs.Commit.{judge as judge_of, carefully as carefully_of, judge_as, raised as raised_of};
 ghost use Rattle.nvram.specs.Ready.{active_entry};
 ghost use Rattle.commit.specs.Active.{way_of, verdict, Active, SomeMoveDue, Used, Commits, MoveCommits};
 
@@ -30,7 +30,7 @@ enum Judged {
 
 // By a bank's header, its figures, and whether a move is due.
 fn judge(header: StoreHeader, used: Figures, due: bool) -> Judged
-    ensures { verdict result ≡ judgeOf header used.system used.common due }
+    ensures { verdict result ≡ judge_of header used.system used.common due }
 {
     if (header.system_size as usize) < used.system {
         return Judged::Refuse(9);
@@ -49,7 +49,7 @@ fn judge(header: StoreHeader, used: Figures, due: bool) -> Judged
 
 // 12 where a move's live records, with the header, would be over the size.
 fn carefully(judged: Judged, live: usize, size: usize) -> Judged
-    ensures { verdict result ≡ carefullyOf live size (verdict judged) }
+    ensures { verdict result ≡ carefully_of live size (verdict judged) }
 {
     match judged {
         Judged::Refuse(number) => Judged::Refuse(number),
@@ -82,7 +82,7 @@ fn judge_as(header: StoreHeader, used: Figures, due: bool, way: Way) -> Judged
 // The header of a move's new bank.
 fn raised(header: StoreHeader) -> StoreHeader
     requires { header.generation < 4294967295 }
-    ensures { result ≡ raisedOf header }
+    ensures { result ≡ raised_of header }
 {
     let mut next = header;
     next.generation = header.generation + 1;

@@ -6,7 +6,7 @@ mod signed;
 
 ghost use Rattle.std.specs.Prelude.{◌≡◌, true, ◌+ℤ◌};
 ghost use Rattle.std.specs.Int.Signed.{lt_z};
-ghost use Rattle.rate.specs.Rate.{magnitude as magnitudeOf, signed as signedBy, thirds as thirdsOf, in_range, is_rate};
+ghost use Rattle.rate.specs.Rate.{magnitude as magnitude_of, signed as signed_by, thirds as thirds_of, in_range, is_rate};
 ghost use Rattle.rate.specs.Answer.{refusal, from_thirds, operation_of, on_thirds, order_of, to_thirds};
 ghost use Rattle.rate.specs.Places.{placed, sign_in};
 
@@ -56,7 +56,7 @@ fn is_rate(r: Rate) -> bool
 }
 
 fn whole_thirds(r: Rate) -> i64
-    ensures { result ≡ thirdsOf r }
+    ensures { result ≡ thirds_of r }
 {
     let p = r.places;
     with_sign(r.minus, magnitude(p))
@@ -86,7 +86,7 @@ fn accepted(minus: bool, places: [u32; 4]) -> RateAnswer
 // The sum of a rate and of thirds in places with a sign: of two signs the lesser is taken from the greater.
 fn signed_sum(a: Rate, minus: bool, q: [u32; 4]) -> RateAnswer
     requires { (is_rate a ≡ true) × (in_range q ≡ true) }
-    ensures { result ≡ from_thirds (thirdsOf a +ℤ signedBy minus (magnitudeOf q)) }
+    ensures { result ≡ from_thirds (thirds_of a +ℤ signed_by minus (magnitude_of q)) }
 {
     let p = a.places;
     if a.minus == minus {
@@ -130,7 +130,7 @@ pub fn combine(operation: Operation, a: Rate, b: Rate) -> RateAnswer
 }
 
 fn is_less(a: Rate, b: Rate) -> bool
-    ensures { result ≡ lt_z (thirdsOf a) (thirdsOf b) }
+    ensures { result ≡ lt_z (thirds_of a) (thirds_of b) }
 {
     less(whole_thirds(a), whole_thirds(b))
 }

@@ -1,6 +1,6 @@
 // Four places: hours, minutes, seconds, thirds.
 ghost use Rattle.std.specs.Prelude.{◌≡◌, true, ◌+◌, ◌-◌, ◌/◌, ◌≤◌, ◌<◌};
-ghost use Rattle.rate.specs.Rate.{in_range, places_of, magnitude as magnitudeOf};
+ghost use Rattle.rate.specs.Rate.{in_range, places_of, magnitude as magnitude_of};
 ghost use Rattle.rate.specs.Places.{limit_of, carried};
 
 // Places, and what was carried out of the hours.
@@ -24,7 +24,7 @@ pub fn in_range(p: [u32; 4]) -> bool
 
 // Whole thirds.
 pub fn magnitude(p: [u32; 4]) -> u64
-    ensures { (result ≡ magnitudeOf p) × (result < 9223372036854775808) }
+    ensures { (result ≡ magnitude_of p) × (result < 9223372036854775808) }
 {
     wide(p[0]) * 216000 + wide(p[1]) * 3600 + wide(p[2]) * 60 + wide(p[3])
 }
@@ -47,7 +47,7 @@ fn carries(n: u32, most: u32) -> u32
 // The sum of two numbers in places, and a third more or none: from the last place to the first, what goes over is carried to the next.
 pub fn carry(p: [u32; 4], q: [u32; 4], more: u32) -> Carried
     requires { (in_range p ≡ true) × (in_range q ≡ true) × (more ≤ 1) }
-    ensures { result ≡ carried (magnitudeOf p + magnitudeOf q + more) }
+    ensures { result ≡ carried (magnitude_of p + magnitude_of q + more) }
 {
     let mut places: [u32; 4] = [0; 4];
     let mut over = more;
@@ -65,15 +65,15 @@ pub fn carry(p: [u32; 4], q: [u32; 4], more: u32) -> Carried
 // What is missing to 23 hours, 59 minutes, 59 seconds and 59 thirds.
 fn complement(p: [u32; 4]) -> [u32; 4]
     requires { in_range p ≡ true }
-    ensures { (in_range result ≡ true) × (magnitudeOf result + magnitudeOf p ≡ 5183999) }
+    ensures { (in_range result ≡ true) × (magnitude_of result + magnitude_of p ≡ 5183999) }
 {
     [23 - p[0], 59 - p[1], 59 - p[2], 59 - p[3]]
 }
 
 // The greater less the lesser. With the complement a borrow is a carry; 24 hours go over.
 pub fn difference(p: [u32; 4], q: [u32; 4]) -> [u32; 4]
-    requires { (in_range p ≡ true) × (in_range q ≡ true) × (magnitudeOf q ≤ magnitudeOf p) }
-    ensures { result ≡ places_of (magnitudeOf p - magnitudeOf q) }
+    requires { (in_range p ≡ true) × (in_range q ≡ true) × (magnitude_of q ≤ magnitude_of p) }
+    ensures { result ≡ places_of (magnitude_of p - magnitude_of q) }
 {
     let d = carry(p, complement(q), 1);
     d.places

@@ -5,7 +5,7 @@ ghost use Rattle.std.specs.Prelude.{◌≡◌, ◌++◌, ◌+◌, ◌*◌, ◌�
 ghost use Rattle.std.proofs.Math.Option.{some};
 ghost use Rattle.tally.specs.Tally.{counted};
 ghost use Rattle.bank.specs.Bank.{Slot};
-ghost use Rattle.book.specs.Commit.{request as requestOf};
+ghost use Rattle.book.specs.Commit.{request as request_of};
 ghost use Rattle.book.specs.Call.{committed};
 ghost use Rattle.nvram.specs.Part.{entry_of};
 ghost use Rattle.requests.specs.Applied.{applied, erase_of, moved_state};
@@ -46,7 +46,7 @@ pub fn refused(state: Nvram, number: u32, erase: Erase) -> Applied
 // Bank i is to be erased unless its slot is Empty.
 pub fn request(kind: Kind, i: usize) -> Erase
     requires { i < 16 }
-    ensures { (k : Slot) → kind ≡ (entry_of k).kind → erase_of result ≡ requestOf k i }
+    ensures { (k : Slot) → kind ≡ (entry_of k).kind → erase_of result ≡ request_of k i }
 {
     match kind {
         Kind::Empty => Erase::Nothing,

@@ -5,7 +5,7 @@ ghost use Rattle.std.specs.Prelude.{◌≡◌, ◌+◌, ◌≤◌, length};
 ghost use Rattle.std.proofs.Math.Option.{none};
 ghost use Rattle.buffers.specs.Bytes.{over};
 ghost use Rattle.bank.specs.Number.{u32_at};
-ghost use Rattle.state_bytes.specs.State.{entry_size, state_size, kind_number, three as threeOf, four as fourOf, stored, kind_of, entry_at, read_state, loaded};
+ghost use Rattle.state_bytes.specs.State.{entry_size, state_size, kind_number, three as three_of, four as four_of, stored, kind_of, entry_at, read_state, loaded};
 
 use nvram::{Entry, Kind, Nvram};
 use tally::Tally;
@@ -107,7 +107,7 @@ pub fn load(bytes: &[u8]) -> Loaded
 
 // Joined, so that the head and each entry are stored by one copy.
 fn three(a: u32, b: u32, c: u32) -> [u8; 12]
-    ensures { result ≡ threeOf a b c }
+    ensures { result ≡ three_of a b c }
 {
     let x = bank::le32(a);
     let y = bank::le32(b);
@@ -118,7 +118,7 @@ fn three(a: u32, b: u32, c: u32) -> [u8; 12]
 }
 
 fn four(a: u32, b: u32, c: u32, d: u32) -> [u8; 16]
-    ensures { result ≡ fourOf a b c d }
+    ensures { result ≡ four_of a b c d }
 {
     let x = bank::le32(a);
     let y = three(b, c, d);

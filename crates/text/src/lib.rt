@@ -2,7 +2,7 @@
 #![tactic(auto)]
 
 ghost use Rattle.std.specs.Prelude.{◌≡◌, ◌<◌, [], ◌∷◌};
-ghost use Rattle.text.specs.Text.{digit as digitOf, hex, be32 as be32Of, decimal, field};
+ghost use Rattle.text.specs.Text.{digit as digit_of, hex, be32 as be32_of, decimal, field};
 ghost use Rattle.text.specs.Put.{Room, Put};
 
 use itoa::Buffer;
@@ -32,7 +32,7 @@ pub fn put_all(out: &mut [u8], at: usize, text: &[u8]) -> usize
 #[tactic(auto, unfolding(crate::specs::Text::digit))]
 fn digit(d: u8) -> u8
     requires { d < 16 }
-    ensures { result ≡ digitOf d }
+    ensures { result ≡ digit_of d }
 {
     if d < 10 { b'0' + d } else { b'A' + (d - 10) }
 }
@@ -65,7 +65,7 @@ pub fn put_number(out: &mut [u8], at: usize, n: u64, end: u8) -> usize
 // A number's four bytes, greatest first.
 #[tactic(auto, unfolding(crate::specs::Text::be32))]
 pub fn be32(n: u32) -> [u8; 4]
-    ensures { result ≡ be32Of n }
+    ensures { result ≡ be32_of n }
 {
     [
         (n / 256 / 256 / 256 % 256) as u8,

@@ -10,35 +10,33 @@ use Rattle.bank.specs.Record.{Record, live, records_bytes}
 use Rattle.bank.specs.Totals.{select}
 use Rattle.records.specs.Records.{Holds}
 use Rattle.moving.proofs.LiveLaws.{MoveTurn, begin, turn, done, stop_is}
+use Rattle.moving.proofs.copy_all_live.Goals.{After-size-n}
 use Rattle.moving.proofs.copy_all_live.Goals as goal
+
+-- the turn that the code is in, once it has the record's size
+turn_at : (c : After-size-n) → let a = c.args in let l = c.loop-at in (rs : List Record) → Holds a.w.now a.from a.end rs → MoveTurn l.w l.at a.end l.p (a.to + length (records_bytes (select live rs))) (over a.to (records_bytes (select live rs)) a.w.now) c.size-n.result
+turn_at c rs h = turn (c.loop-at.invariant.2 rs h) c.loop-at-test.true c.parse-header.result c.parse-header.ensures c.size-n.result c.size-n.ensures
 
 pub loop-at-init : goal.loop-at-init
 loop-at-init c = let p = c.requires in (refl, p.0.1.high, λ rs h. begin h p.1 p.2)
 
 pub copy_live-p-requires : goal.copy_live-p-requires
-copy_live-p-requires c =
-    let turn_at : let a = c.args in let l = c.loop-at in (rs : List Record) → Holds a.w.now a.from a.end rs → MoveTurn l.w l.at a.end l.p (a.to + length (records_bytes (select live rs))) (over a.to (records_bytes (select live rs)) a.w.now) c.size-n.result = λ rs h. turn (c.loop-at.invariant.2 rs h) c.loop-at-test.true c.parse-header.result c.parse-header.ensures c.size-n.result c.size-n.ensures in
-    let p = c.requires.0 in
-    let t = turn_at p.0 p.1 in
+copy_live-p-requires c = let p = c.requires.0 in
+    let t = (turn_at (goal.at.copy_live-p-requires c).After-size-n) p.0 p.1 in
     (t.more, t.inside, t.fits, t.clear)
 
 pub overflow_add-at : goal.overflow_add-at
-overflow_add-at c =
-    let turn_at : let a = c.args in let l = c.loop-at in (rs : List Record) → Holds a.w.now a.from a.end rs → MoveTurn l.w l.at a.end l.p (a.to + length (records_bytes (select live rs))) (over a.to (records_bytes (select live rs)) a.w.now) c.size-n.result = λ rs h. turn (c.loop-at.invariant.2 rs h) c.loop-at-test.true c.parse-header.result c.parse-header.ensures c.size-n.result c.size-n.ensures in
-    let p = c.requires.0 in
-    let t = turn_at p.0 p.1 in
+overflow_add-at c = let p = c.requires.0 in
+    let t = (turn_at (goal.at.overflow_add-at c).After-size-n) p.0 p.1 in
     omega (arith, t.within)
 
 pub loop-at-smaller : goal.loop-at-smaller
-loop-at-smaller c =
-    let turn_at : let a = c.args in let l = c.loop-at in (rs : List Record) → Holds a.w.now a.from a.end rs → MoveTurn l.w l.at a.end l.p (a.to + length (records_bytes (select live rs))) (over a.to (records_bytes (select live rs)) a.w.now) c.size-n.result = λ rs h. turn (c.loop-at.invariant.2 rs h) c.loop-at-test.true c.parse-header.result c.parse-header.ensures c.size-n.result c.size-n.ensures in
-    let p = c.requires.0 in
-    let t = turn_at p.0 p.1 in
+loop-at-smaller c = let p = c.requires.0 in
+    let t = (turn_at (goal.at.loop-at-smaller c).After-size-n) p.0 p.1 in
     omega (arith, t.within, t.more)
 
 pub loop-at-preserved : goal.loop-at-preserved
-loop-at-preserved c =
-    let turn_at : let a = c.args in let l = c.loop-at in (rs : List Record) → Holds a.w.now a.from a.end rs → MoveTurn l.w l.at a.end l.p (a.to + length (records_bytes (select live rs))) (over a.to (records_bytes (select live rs)) a.w.now) c.size-n.result = λ rs h. turn (c.loop-at.invariant.2 rs h) c.loop-at-test.true c.parse-header.result c.parse-header.ensures c.size-n.result c.size-n.ensures in
+loop-at-preserved c = let turn_at = turn_at (goal.at.loop-at-preserved c).After-size-n in
     let p = c.requires.0 in
     let l = c.loop-at in
     let k = c.copy_live-p in (

@@ -5,17 +5,17 @@ use lib.ListN.{get_or}
 use Rattle.bank.specs.Bank.{invalid}
 use Rattle.nvram.proofs.CallLaws.{empty_valid, invalid_valid}
 use Rattle.whole_image.proofs.ImageLaws.{SlotHere, here, size_none, size_valid}
+use Rattle.whole_image.proofs.slot_size.Goals.{Start}
 use Rattle.whole_image.proofs.slot_size.Goals as goal
 
+slot : (c : Start) → let i = c.args.i in SlotHere c.args.state.banks c.args.work.now i (get_or c.requires.0.0 i invalid)
+slot c = here c.requires.0.1 c.requires.1
+
 pub slice_bounds-parse-count : goal.slice_bounds-parse-count
-slice_bounds-parse-count c =
-    let slot : let i = c.args.i in SlotHere c.args.state.banks c.args.work.now i (get_or c.requires.0.0 i invalid) = here c.requires.0.1 c.requires.1 in
-    omega (arith, (slot).within)
+slice_bounds-parse-count c = omega (arith, (slot (goal.at.slice_bounds-parse-count c).Start).within)
 
 pub slice_bounds-parse-start : goal.slice_bounds-parse-start
-slice_bounds-parse-start c =
-    let slot : let i = c.args.i in SlotHere c.args.state.banks c.args.work.now i (get_or c.requires.0.0 i invalid) = here c.requires.0.1 c.requires.1 in
-    omega (arith, (slot).within)
+slice_bounds-parse-start c = omega (arith, (slot (goal.at.slice_bounds-parse-start c).Start).within)
 
 pub returns-in-Empty : goal.returns-in-Empty
 returns-in-Empty c = λ ss s. size_none (here s c.requires.1) (empty_valid _ c.in-Empty.is)

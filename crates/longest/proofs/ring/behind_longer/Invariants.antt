@@ -1,11 +1,6 @@
-use native.Mathlib.Omega.{arith}
-use Prim.Native.Nat.{◌+◌, ◌-◌, ◌≤◌}
-use mathlib.Core.Path.{◌≡◌, sym, ap, ◌∙◌}
-use borrow.Author.Rules.{rules}
+use Prim.Native.Nat.{◌-◌, ◌≤◌}
+use mathlib.Core.Path.{◌≡◌}
 use Rattle.longest.specs.Ring.{not_shorter}
-use Rattle.longest.proofs.RingLaws.{newest_shorter, newest_stays, no_newest}
-use Rattle.longest.proofs.ring.behind_longer.Reads as reads
-use Rattle.longest.proofs.ring.behind_longer.Lts as lts
 use Rattle.longest.proofs.ring.behind_longer.Given as goal
 
 abbrev pub invariant-loop-t : goal.invariant-loop-t

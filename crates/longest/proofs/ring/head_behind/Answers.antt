@@ -1,9 +1,6 @@
 -- src/ring.rt:34:16
 use native.Mathlib.Omega.{arith}
-use borrow.Author.Rules.{rules}
 use borrow.Author.Tests.{eq-eqb, ne_eqb}
-use Rattle.longest.proofs.ring.head_behind.Reads as reads
-use Rattle.longest.proofs.ring.head_behind.Lts as lts
 use Rattle.longest.proofs.ring.head_behind.Goals as goal
 
 -- src/ring.rt:34:9

@@ -4,10 +4,7 @@ use Prim.Native.Nat.{◌+◌, ◌*◌}
 use mathlib.Core.Path.{sym, ◌∙◌}
 use mathlib.Core.List.{[], ◌∷◌}
 use lib.ListN.{set, length-set}
-use borrow.Author.Rules.{rules}
 use Rattle.buffers.proofs.OverLaws.{over_set, over_cons}
-use Rattle.longest.proofs.ring.put_window.Reads as reads
-use Rattle.longest.proofs.ring.put_window.Lts as lts
 use Rattle.longest.proofs.ring.put_window.Goals as goal
 
 -- src/ring.rt:46:5
