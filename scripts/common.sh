@@ -45,7 +45,7 @@ fenced() {
 }
 
 # What the prover said of a crate, where that is not proved.
-unproved() { [[ $1 == *logic=proved* ]] || printf '%s' "$1"; }
+unproved() { [[ $1 == *logic=proved* && $1 != *not-proved* && $1 != *error* ]] || printf '%s' "$1"; }
 
 # progress CRATES EDITS: of what rt prints, a line for each of so many crates and edits. What the prover says of a crate is shown only where
 # the crate is not proved; target/log has all of it.
