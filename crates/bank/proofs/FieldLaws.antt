@@ -2,29 +2,30 @@
 -- record's header, by the laws of `found`; `Front` is a record's header as far as it is written.
 use Prim.Native.Nat.{ℕ, ◌+◌, ◌-◌, ◌≤◌, ◌<◌}
 use mathlib.Core.Path.{◌≡◌, refl, sym, ap, ◌∙◌}
-use mathlib.Core.List.{List, [], ◌∷◌, ◌++◌, append-nil, append_assoc}
-use mathlib.Core.Bool.{false}
+use mathlib.Core.List.{List, [], ◌∷◌, ◌++◌}
+use mathlib.Core.Bool.{Bool, true, false, ◌&&◌, and-false}
 use native.Mathlib.Omega.{arith}
-use lib.ListN.{length, get_or, take, drop, replicate, length-append, length-take, length-drop}
-use lib.Seq.{drop-length, take_all, take_at}
-use borrow.Rule.Slice.PartMut.{same_len_mid}
+use lib.ListN.{length, get_or, set, take, drop, replicate}
+use lib.Seq.{take_at, drop_at}
+use borrow.Rule.Slice.PartMut.{put_mid}
 use borrow.Author.Tests.{le-leb, lt-leb}
 use Rattle.crc32.specs.Crc32.{crc32_of}
-use Rattle.buffers.specs.Bytes.{onto, eq_bytes}
-use Rattle.buffers.proofs.Laws.{onto_fits, length_onto}
+use Rattle.buffers.proofs.Laws.{eq_bytes_lem}
+use Rattle.std.specs.Cmp.Lexicographic.{same_text, other_text}
+use Rattle.std.proofs.Common.{nat_eq}
+use lib.Pointwise.{pointwise}
+use lib.Dec.{leb}
+use Rattle.buffers.specs.Bytes.{eq_bytes}
 use Rattle.bank.specs.declared.header.StoreHeader.{StoreHeader}
 use Rattle.bank.specs.declared.variable.VarHeader.{VarHeader}
-use Rattle.bank.specs.declared.variable.Step.TheVariants.{Next, Halt}
+use Rattle.std.specs.Prelude.{Ok, Err}
 use Rattle.bank.specs.declared.partition.Stop.TheVariants.{Length, Name, Crc}
 use Rattle.bank.specs.Number.{u16_at, u32_at, le32}
 use Rattle.bank.specs.Header.{signature, signed, header_bytes}
-use Rattle.bank.specs.Record.{name_at, value_at, size_at}
+use Rattle.bank.specs.Record.{var_header_bytes, name_at, value_at, size_at}
 use Rattle.bank.specs.Read.{found}
 use Rattle.bank.specs.Answer.{var_header, parsed_header, step_of}
 use Rattle.bank.proofs.WalkLaws.{found_length, found_name, found_crc, found_got, size_of_lem}
-
-pub onto_whole : (x y : List ℕ) → length x ≡ length y → onto x y ≡ x
-onto_whole x y e = onto_fits x y (omega arith) ∙ rw (e, drop-length y) (append-nil x)
 
 -- the signature of a bank's header
 module _ (s : List ℕ) where
@@ -32,26 +33,25 @@ module _ (s : List ℕ) where
   unfolding signed
   signed_short h = simp (lt-leb _ _ h)
 
-  pub signed_as : 24 ≤ length s → signed s ≡ eq_bytes (take 4 s) signature
-  unfolding signed
-  signed_as h = simp (le-leb _ _ h)
+  module _ (long : 24 ≤ length s) where
+    pub signed_so : true ≡ pointwise nat_eq signature (take 4 s) → signed s ≡ true
+    unfolding signed eq_bytes
+    signed_so e = rw (sym (same_text signature (take 4 s) e)) (simp (le-leb _ _ long))
 
--- the four numbers of a bank's header, each in its bytes
-pub header_is : (h : StoreHeader) (a b c d : List ℕ) → a ≡ le32 h.size → b ≡ le32 h.generation → c ≡ le32 h.system_size
+    pub unsigned_so : false ≡ pointwise nat_eq signature (take 4 s) → signed s ≡ false
+    unfolding signed
+    unsigned_so e = go (eq_bytes (take 4 s) signature) refl
+      where
+        go : (t : Bool) → eq_bytes (take 4 s) signature ≡ t → (leb 24 (length s) && t) ≡ false
+        go true t = absurd (other_text signature (take 4 s) e (sym (eq_bytes_lem (take 4 s) signature t)))
+        go false t = and-false (leb 24 (length s))
+
+-- the bytes of a bank's header, as they are written over zeros
+pub header_is : (h : StoreHeader) (z a b c d : List ℕ) → z ≡ signature → a ≡ le32 h.size → b ≡ le32 h.generation → c ≡ le32 h.system_size
     → d ≡ le32 h.common_size
-    → signature
-    ++ (get_or a 0 0 ∷ get_or a 1 0 ∷ get_or a 2 0 ∷ get_or a 3 0 ∷ get_or b 0 0 ∷ get_or b 1 0 ∷ get_or b 2 0 ∷ get_or b 3 0 ∷ h.state ∷ h.flags ∷ 1 ∷ 0
-    ∷ get_or c 0 0
-    ∷ get_or c 1 0
-    ∷ get_or c 2 0
-    ∷ get_or c 3 0
-    ∷ get_or d 0 0
-    ∷ get_or d 1 0
-    ∷ get_or d 2 0
-    ∷ get_or d 3 0
-    ∷ []) ≡ header_bytes h
+    → put_mid 20 4 (put_mid 16 4 (set (set (set (put_mid 8 4 (put_mid 4 4 (z ++ replicate 20 0) a) b) 12 h.state) 13 h.flags) 14 1) c) d ≡ header_bytes h
 unfolding header_bytes le32
-header_is h a b c d p q r t = rw (p, q, r, t)
+header_is h z a b c d o p q r t = rw (o, p, q, r, t) refl
 
 -- the header of a record
 module _ (s : List ℕ) where
@@ -80,7 +80,7 @@ module _ (s : List ℕ) (b : u16_at s 0 ≡ 0x55AA) (long : 36 ≤ length s) (h 
   size_is : end ≡ size_at s
   size_is = omega (arith, (name_is s long h e), (value_is s long h e))
 
-  pub step_length : length s < end → Halt Length ≡ step_of (found s)
+  pub step_length : length s < end → Err Length ≡ step_of (found s)
   unfolding step_of
   step_length l = ap step_of (sym (found_length s b (omega (arith, size_is))))
 
@@ -88,7 +88,7 @@ module _ (s : List ℕ) (b : u16_at s 0 ≡ 0x55AA) (long : 36 ≤ length s) (h 
     ends : size_at s ≤ length s
     ends = omega (arith, size_is)
 
-    pub step_name : h.name_size ≡ 0 → Halt Name ≡ step_of (found s)
+    pub step_name : h.name_size ≡ 0 → Err Name ≡ step_of (found s)
     unfolding step_of
     step_name n = ap step_of (sym (found_name s b ends (omega (arith, (name_is s long h e)))))
 
@@ -103,51 +103,21 @@ module _ (s : List ℕ) (b : u16_at s 0 ≡ 0x55AA) (long : 36 ≤ length s) (h 
           let q : value ≡ 36 + name_at s = omega (arith, (name_is s long h e)) in
           summed ∙ rw (p, q)
 
-      pub step_crc : (h.crc ≡ sum → ⊥) → Halt Crc ≡ step_of (found s)
+      pub step_crc : (h.crc ≡ sum → ⊥) → Err Crc ≡ step_of (found s)
       unfolding step_of
       step_crc f = ap step_of (sym (found_crc s b ends has_name (λ g. f ((crc_is s long h e) ∙ g ∙ sym sum_is))))
 
-      pub step_next : h.crc ≡ sum → Next end ≡ step_of (found s)
+      pub step_next : h.crc ≡ sum → Ok end ≡ step_of (found s)
       unfolding step_of
       step_next f =
-          ap Next (size_is ∙ sym (size_of_lem s ends has_name)) ∙ ap step_of (sym (found_got s b ends has_name (sym (crc_is s long h e) ∙ f ∙ sum_is)))
+          ap Ok (size_is ∙ sym (size_of_lem s ends has_name)) ∙ ap step_of (sym (found_got s b ends has_name (sym (crc_is s long h e) ∙ f ∙ sum_is)))
 
--- 36 bytes, as a part of them is lent and comes back as y: the part from `at` on
-abbrev tailed : ℕ → List ℕ → List ℕ → List ℕ
-tailed at w y = take at w ++ (y ++ drop (36 - at) (drop at w))
-
-pub record Length36 (w : List ℕ) : Type 0 where
-  pub long : length w ≡ 36
-
-pub length_36 : (state : ℕ) → Length36 (0xAA ∷ 0x55 ∷ state ∷ replicate 33 0)
-length_36 state = record { long = refl }
-
-pub length_kept : {w y : List ℕ} (at : ℕ) (x : List ℕ) → Length36 w → y ≡ onto x (take (36 - at) (drop at w)) → Length36 (tailed at w y)
-length_kept {w} {y} at x f e = record { long = same_len_mid at (36 - at) w y (ap length e ∙ length_onto x _) ∙ f.long }
-
--- written from the front on: p stands before `at`
-pub record Front (w : List ℕ) (at : ℕ) (p : List ℕ) : Type 0 where
-  pub whole : Length36 w
-  pub begins : take at w ≡ p
-
-pub header_front : (state : ℕ) → Front (0xAA ∷ 0x55 ∷ state ∷ replicate 33 0) 4 (0xAA ∷ 0x55 ∷ state ∷ 0 ∷ [])
-header_front state = record { whole = length_36 state; begins = refl }
-
-pub header_next : {w : List ℕ} {at : ℕ} {p x y z : List ℕ} (m : ℕ) → Front w at p → x ≡ z → length z ≡ m → at + m ≤ 36
-    → y ≡ onto x (take (36 - at) (drop at w))
-    → Front (tailed at w y) (at + m) (p ++ z)
-header_next {w} {at} {p} {x} {y} {z} m f q l h e =
-    let rest = take (36 - at) (drop at w) in
-    let after = drop (36 - at) (drop at w) in
-    let k : length x ≡ m = ap length q ∙ l in
-    let r : length rest ≡ 36 - at = simp (length-take, length-drop) (omega (arith, f.whole.long)) in
-    let v : y ≡ x ++ drop (length x) rest = e ∙ onto_fits x rest (omega arith) in
-    let g : tailed at w y ≡ (take at w ++ x) ++ (drop (length x) rest ++ after) = rw v (simp append_assoc) in
-    let n : length (take at w ++ x) ≡ at + m = simp (length-append, length-take) (omega (arith, f.whole.long)) in
-    record {
-      whole = length_kept at x f.whole e;
-      begins = ap (take (at + m)) g ∙ take_at (take at w ++ x) (drop (length x) rest ++ after) (at + m) n ∙ rw (f.begins, q);
-    }
-
-pub front_all : {w p : List ℕ} → Front w 36 p → w ≡ p
-front_all {w} f = sym (take_all 36 w (omega (arith, f.whole.long))) ∙ f.begins
+-- and those of a record's header
+pub var_header_is : (h : VarHeader) (z a b c d : List ℕ) → z ≡ 0xAA ∷ 0x55 ∷ [] → a ≡ le32 h.attrs → b ≡ le32 h.name_size → c ≡ le32 h.data_size
+    → length h.guid ≡ 16
+    → d ≡ le32 h.crc
+    → put_mid 32 4 (put_mid 16 16 (put_mid 12 4 (put_mid 8 4 (put_mid 4 4 (set (z ++ replicate 34 0) 2 h.state) a) b) c) h.guid) d
+    ≡ var_header_bytes h.state h.attrs h.name_size h.data_size h.guid h.crc
+unfolding var_header_bytes le32
+var_header_is h z a b c d o p q r n t =
+    rw (o, p, q, r, t) (simp (take_at h.guid (replicate 4 0) 16 n, drop_at h.guid (replicate 4 0) 16 n))

@@ -10,8 +10,9 @@ use borrow.Author.Tests.{le-leb, lt-leb, eq-eqb, ne_eqb, leb-true, eqb-true, eqb
 use Rattle.buffers.specs.Bytes.{eq_bytes}
 use Rattle.buffers.proofs.Laws.{clash, eq_bytes_lem, eq_bytes_refl, and_both, by_test}
 use Rattle.bank.specs.declared.header.StoreHeader.{StoreHeader}
-use Rattle.bank.specs.declared.header.Head.{Head}
-use Rattle.bank.specs.declared.header.Head.TheVariants.{Signature, Version, Size, Good}
+use Rattle.bank.specs.declared.header.HeaderFault.{HeaderFault}
+use Rattle.bank.specs.declared.header.HeaderFault.TheVariants.{Signature, Version, Size}
+use Rattle.std.specs.Prelude.{Result, Ok, Err}
 use Rattle.bank.specs.Number.{u32_at, le32}
 use Rattle.bank.specs.Header.{signature, header_bytes, header_of, signed, read_header}
 use Rattle.bank.specs.WellFormed.{FineHeader}
@@ -20,25 +21,25 @@ use Rattle.bank.proofs.LengthLaws.{length_header}
 
 -- a header, by its faults in order
 module _ (s : List ℕ) where
-  pub head_signature : signed s ≡ false → read_header s ≡ Signature
+  pub head_signature : signed s ≡ false → read_header s ≡ Err Signature
   unfolding read_header
   head_signature a = simp a
 
   module _ (a : signed s ≡ true) where
-    pub head_version : (get_or s 14 0 ≡ 1 → ⊥) → read_header s ≡ Version
+    pub head_version : (get_or s 14 0 ≡ 1 → ⊥) → read_header s ≡ Err Version
     unfolding read_header
     head_version b = simp (a, ne_eqb _ _ b)
 
     module _ (b : get_or s 14 0 ≡ 1) where
-      pub head_small : u32_at s 4 < 24 → read_header s ≡ Size
+      pub head_small : u32_at s 4 < 24 → read_header s ≡ Err Size
       unfolding read_header
       head_small d = simp (a, eq-eqb _ _ b, lt-leb _ _ d)
 
-      pub head_big : 24 ≤ u32_at s 4 → 65536 < u32_at s 4 → read_header s ≡ Size
+      pub head_big : 24 ≤ u32_at s 4 → 65536 < u32_at s 4 → read_header s ≡ Err Size
       unfolding read_header
       head_big d e = simp (a, eq-eqb _ _ b, le-leb _ _ d, lt-leb _ _ e)
 
-      pub head_good : 24 ≤ u32_at s 4 → u32_at s 4 ≤ 65536 → read_header s ≡ Good (header_of s)
+      pub head_good : 24 ≤ u32_at s 4 → u32_at s 4 ≤ 65536 → read_header s ≡ Ok (header_of s)
       unfolding read_header
       head_good d e = simp (a, eq-eqb _ _ b, le-leb _ _ d, le-leb _ _ e)
 
@@ -52,11 +53,11 @@ pub record Headed (s : List ℕ) (h : StoreHeader) : Type 0 where
   pub size_high : u32_at s 4 ≤ 65536
 
 -- and what a fault does: the tests before it were passed
-abbrev pub HeadShows : List ℕ → Head → Type 0
-HeadShows s (Good h) = Headed s h
-HeadShows s Signature = 24 ≤ length s → take 4 s ≡ signature → ⊥
-HeadShows s Version = (take 4 s ≡ signature) × (get_or s 14 0 ≡ 1 → ⊥)
-HeadShows s Size = (take 4 s ≡ signature) × (get_or s 14 0 ≡ 1) × ((24 ≤ u32_at s 4) × (u32_at s 4 ≤ 65536) → ⊥)
+abbrev pub HeadShows : List ℕ → Result StoreHeader HeaderFault → Type 0
+HeadShows s (Ok h) = Headed s h
+HeadShows s (Err Signature) = 24 ≤ length s → take 4 s ≡ signature → ⊥
+HeadShows s (Err Version) = (take 4 s ≡ signature) × (get_or s 14 0 ≡ 1 → ⊥)
+HeadShows s (Err Size) = (take 4 s ≡ signature) × (get_or s 14 0 ≡ 1) × ((24 ≤ u32_at s 4) × (u32_at s 4 ≤ 65536) → ⊥)
 
 module _ (s : List ℕ) where
   signs_is : signed s ≡ true → (24 ≤ length s) × (take 4 s ≡ signature)
@@ -99,11 +100,11 @@ module _ (s : List ℕ) where
       (λ b. ((signs_is a).1, eqb-false _ _ b)))
       (λ a. not_signed a)
 
-  pub head_shows : (o : Head) → read_header s ≡ o → HeadShows s o
+  pub head_shows : (o : Result StoreHeader HeaderFault) → read_header s ≡ o → HeadShows s o
   head_shows o e = subst (HeadShows s) e head_sound
 
-pub headed : (s : List ℕ) (h : StoreHeader) → read_header s ≡ Good h → Headed s h
-headed s h e = head_shows s (Good h) e
+pub headed : (s : List ℕ) (h : StoreHeader) → read_header s ≡ Ok h → Headed s h
+headed s h e = head_shows s (Ok h) e
 
 module _ (h : StoreHeader) (rest : List ℕ) (f : FineHeader h) where
   fields_of_lem : header_of (header_bytes h ++ rest) ≡ h
@@ -136,7 +137,7 @@ module _ (h : StoreHeader) (rest : List ℕ) (f : FineHeader h) where
       let l : 24 ≤ length (header_bytes h ++ rest) = omega (arith, length-append (header_bytes h) rest, length_header h) in
       simp (le-leb 24 (length (header_bytes h ++ rest)) l, signature_back)
 
-  pub header_back : read_header (header_bytes h ++ rest) ≡ Good h
+  pub header_back : read_header (header_bytes h ++ rest) ≡ Ok h
   header_back =
       head_good (header_bytes h ++ rest) signed_back version_back (omega (arith, size_of_header, f.size_low)) (omega (arith, size_of_header, f.size_high))
-      ∙ ap Good fields_of_lem
+      ∙ ap Ok fields_of_lem

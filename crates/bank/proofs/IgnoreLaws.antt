@@ -13,7 +13,7 @@ use Rattle.crc32.specs.Crc32.{crc32_of}
 use Rattle.buffers.specs.Bytes.{all_blank, count_ff}
 use Rattle.buffers.proofs.Laws.{clash}
 use Rattle.bank.specs.declared.header.StoreHeader.{StoreHeader}
-use Rattle.bank.specs.declared.header.Head.TheVariants.{Good}
+use Rattle.std.specs.Prelude.{Ok}
 use Rattle.bank.specs.declared.partition.Stop.{Stop}
 use Rattle.bank.specs.declared.partition.Stop.TheVariants.{Blank, Start, Length, End, Name, Crc}
 use Rattle.bank.specs.Number.{u16_at, u32_at}
@@ -62,7 +62,7 @@ header_same s t long f =
     simp (long, start, size, generation, state, flags, version, system, common)
 
 -- 01, 'Reserved and closing bytes are ignored on reading': the header's reserved byte
-pub header_reserved : (s : List ℕ) (x : ℕ) (h : StoreHeader) → read_header s ≡ Good h → read_header (set s 15 x) ≡ Good h
+pub header_reserved : (s : List ℕ) (x : ℕ) (h : StoreHeader) → read_header s ≡ Ok h → read_header (set s 15 x) ≡ Ok h
 header_reserved s x h e = header_same s (set s 15 x) (length-set s 15 x) (λ i _ n. get_or-set_other s 15 i x 0 n) ∙ e
 
 -- a record's 36 bytes, but for the reserved one

@@ -4,10 +4,19 @@ use mathlib.Core.Path.{◌≡◌, refl}
 use mathlib.Core.List.{List, ◌++◌}
 use native.Mathlib.Nat.{add_assoc}
 use native.Mathlib.Omega.{arith}
+use Rattle.std.specs.Int.{w32, to_le_bytes}
 use lib.ListN.{length, get_or}
 use lib.Seq.{get_or-append-add}
 use Rattle.crc32.specs.Crc32.{Bytes}
 use Rattle.bank.specs.Number.{u16_at, u32_at, le32}
+
+-- as std's bytes of a number
+pub le_bytes : (n : ℕ) → to_le_bytes w32 n ≡ le32 n
+unfolding le32
+le_bytes n =
+    let a : n / 65536 % 256 ≡ n / 256 / 256 % 256 = omega arith in
+    let b : n / 16777216 % 256 ≡ n / 256 / 256 / 256 % 256 = omega arith in
+    rw (a, b) refl
 
 pub length_le32 : (n : ℕ) → length (le32 n) ≡ 4
 unfolding le32
@@ -35,7 +44,12 @@ pub u32_lt : (s : List ℕ) (i : ℕ) → Bytes s → u32_at s i < 4294967296
 unfolding u32_at
 u32_lt s i k = omega (arith, k i, k (i + 1), k (i + 2), k (i + 3))
 
--- the two bytes of a record's start number
+-- a record's start number, as the code has it
+pub start_is : (s : List ℕ) (n : ℕ) → n ≡ get_or s 0 0 + get_or s 1 0 * 256 → n ≡ u16_at s 0
+unfolding u16_at
+start_is s n e = omega arith
+
+-- and its two bytes
 module _ (s : List ℕ) (k : Bytes s) (e : u16_at s 0 ≡ 0x55AA) where
   pub start_low : get_or s 0 0 ≡ 0xAA
   unfolding u16_at

@@ -9,8 +9,9 @@ use Rattle.crc32.specs.Crc32.{Bytes}
 use Rattle.buffers.specs.Bytes.{all_ff}
 use Rattle.buffers.proofs.Laws.{clash, count_ff_le}
 use Rattle.bank.specs.declared.header.StoreHeader.{StoreHeader}
-use Rattle.bank.specs.declared.header.Head.{Head}
-use Rattle.bank.specs.declared.header.Head.TheVariants.{Signature, Version, Size, Good}
+use Rattle.bank.specs.declared.header.HeaderFault.{HeaderFault}
+use Rattle.bank.specs.declared.header.HeaderFault.TheVariants.{Signature, Version, Size}
+use Rattle.std.specs.Prelude.{Result, Ok, Err}
 use Rattle.bank.specs.declared.partition.Stop.{Stop}
 use Rattle.bank.specs.declared.partition.Stop.TheVariants.{Blank, Start, Length, End, Name, Crc}
 use Rattle.bank.specs.Header.{header_of, read_header}
@@ -26,7 +27,7 @@ use Rattle.bank.proofs.HeaderLaws.{headed}
 
 -- the header and the walk that a bank came from
 pub record Came (s : List ℕ) (b : Bank) : Type 0 where
-  pub head : read_header s ≡ Good b.header
+  pub head : read_header s ≡ Ok b.header
   pub records : (walk_from s b.header.size 24).records ≡ b.records
   pub usable : usable_at (walk_from s b.header.size 24).stop s b.header.size (walk_from s b.header.size 24).at ≡ b.usable
 
@@ -42,22 +43,22 @@ pub came : (s : List ℕ) (b : Bank) → read_bank s ≡ valid b → Came s b
 unfolding read_bank after_head erased_slot slot_of
 came s b e = go (read_header s) refl e
   where
-    with : (h : StoreHeader) → read_header s ≡ Good h → bank_of h (walk_from s h.size 24).records
+    with : (h : StoreHeader) → read_header s ≡ Ok h → bank_of h (walk_from s h.size 24).records
         (usable_at (walk_from s h.size 24).stop s h.size (walk_from s h.size 24).at) ≡ b → Came s b
     with h p q = subst (Came s) q (record { head = p; records = refl; usable = refl })
 
-    go : (o : Head) → read_header s ≡ o → after_head s o ≡ valid b → Came s b
-    go Signature p q = absurd (not_valid (all_ff s) b q)
-    go Version p q = absurd (not_valid (all_ff s) b q)
-    go Size p q = clash cc
-    go (Good h) p q = with h p (by_stop (spoils (walk_from s h.size 24).stop) _ b q)
+    go : (o : Result StoreHeader HeaderFault) → read_header s ≡ o → after_head s o ≡ valid b → Came s b
+    go (Err Signature) p q = absurd (not_valid (all_ff s) b q)
+    go (Err Version) p q = absurd (not_valid (all_ff s) b q)
+    go (Err Size) p q = clash cc
+    go (Ok h) p q = with h p (by_stop (spoils (walk_from s h.size 24).stop) _ b q)
 
 pub came_total : (s : List ℕ) (b : Bank) → Came s b → total b ≡ (walk_from s b.header.size 24).at
 unfolding total
 came_total s b k = sym (walk_at s b.header.size 24 ∙ ap (λ (rs : List Record). 24 + sizes rs) k.records)
 
 -- a header that was read is well-formed
-pub head_fine : (s : List ℕ) (h : StoreHeader) → Bytes s → read_header s ≡ Good h → FineHeader h
+pub head_fine : (s : List ℕ) (h : StoreHeader) → Bytes s → read_header s ≡ Ok h → FineHeader h
 unfolding header_of
 head_fine s h k e =
     let q = headed s h e in

@@ -7,8 +7,9 @@ use lib.ListN.{length}
 use Rattle.buffers.specs.Bytes.{all_ff}
 use Rattle.buffers.proofs.Laws.{clash, all_ff_is}
 use Rattle.bank.specs.declared.header.StoreHeader.{StoreHeader}
-use Rattle.bank.specs.declared.header.Head.{Head}
-use Rattle.bank.specs.declared.header.Head.TheVariants.{Good, Signature, Version, Size}
+use Rattle.bank.specs.declared.header.HeaderFault.{HeaderFault}
+use Rattle.bank.specs.declared.header.HeaderFault.TheVariants.{Signature, Version, Size}
+use Rattle.std.specs.Prelude.{Result, Ok, Err}
 use Rattle.bank.specs.Number.{u32_at, le32}
 use Rattle.bank.specs.Header.{header_bytes, header_of, read_header}
 use Rattle.bank.specs.Bank.{Bank, empty, invalid, valid}
@@ -36,11 +37,11 @@ pub empty_ff : (s : List ℕ) → read_bank s ≡ empty → s ≡ blanks (length
 unfolding read_bank after_head slot_of
 empty_ff s e = go (read_header s) e
   where
-    go : (o : Head) → after_head s o ≡ empty → s ≡ blanks (length s)
-    go (Good h) q = absurd (not_empty (spoils (walk_from s h.size 24).stop) _ q)
-    go Signature q = erased_ff s q
-    go Version q = erased_ff s q
-    go Size q = clash cc
+    go : (o : Result StoreHeader HeaderFault) → after_head s o ≡ empty → s ≡ blanks (length s)
+    go (Ok h) q = absurd (not_empty (spoils (walk_from s h.size 24).stop) _ q)
+    go (Err Signature) q = erased_ff s q
+    go (Err Version) q = erased_ff s q
+    go (Err Size) q = clash cc
 
 -- generations
 

@@ -1,11 +1,10 @@
 -- What the code answers where the definitions have a slot, an item of the walk or a record's header; and a part as `serialize` leaves it.
-use Rattle.std.specs.Prelude.{ℕ, ◌+◌, List, ◌&&◌, cond, length, get_or, take, drop, replicate, leb}
+use Rattle.std.specs.Prelude.{ℕ, Option, Some, None, Result, Ok, Err, ◌+◌, List, ◌&&◌, cond, length, get_or, take, drop, replicate, leb}
 use Rattle.bank.specs.declared.partition.Slot.{Slot}
-use Rattle.bank.specs.declared.partition.Slot.TheVariants.{Short, Empty, Invalid, Valid}
+use Rattle.bank.specs.declared.partition.Slot.TheVariants.{Empty, Invalid, Valid}
 use Rattle.bank.specs.declared.partition.Partition.{Partition}
 use Rattle.bank.specs.declared.partition.Walked.{Walked}
-use Rattle.bank.specs.declared.variable.Step.{Step}
-use Rattle.bank.specs.declared.variable.Step.TheVariants.{Next, Halt}
+use Rattle.bank.specs.declared.partition.Stop.{Stop}
 use Rattle.bank.specs.declared.variable.VarType.{VarType}
 use Rattle.bank.specs.declared.variable.VarHeader.{VarHeader}
 use Rattle.bank.specs.Bank as bank
@@ -23,13 +22,13 @@ answer bank.empty = Empty
 answer bank.invalid = Invalid
 answer (bank.valid b) = Valid (partition_of b)
 
-unfoldable pub parsed : List ℕ → Slot
-parsed s = of_lent Short (λ b. answer (read_bank b)) s
+unfoldable pub parsed : List ℕ → Option Slot
+parsed s = of_lent None (λ b. Some (answer (read_bank b))) s
 
 -- of what stands at an offset: the record's size, or why reading stops there
-unfoldable pub step_of : Item → Step
-step_of (got r) = Next (size_of r)
-step_of (halt c) = Halt c
+unfoldable pub step_of : Item → Result ℕ Stop
+step_of (got r) = Ok (size_of r)
+step_of (halt c) = Err c
 
 -- where reading stopped, why, and how many records it had read, n of them before this walk
 unfoldable pub walked : ℕ → Walk → Walked
@@ -50,8 +49,8 @@ unfoldable pub fresh_header : VarType → ℕ → ℕ → ℕ → ℕ → VarHea
 fresh_header typ attributes name value crc = var_header 0x7F attributes name value (guid_of typ) crc
 
 -- a bank's part as it is left for any bytes lent: as it was where the bank or the part is too short
-unfoldable pub serialized_slot : List ℕ → List ℕ → Slot
-serialized_slot s out = cond (leb bank_size (length out)) (parsed s) Short
+unfoldable pub serialized_slot : List ℕ → List ℕ → Option Slot
+serialized_slot s out = cond (leb bank_size (length out)) (parsed s) None
 
 unfoldable pub serialized_part : List ℕ → List ℕ → List ℕ
 serialized_part s out =

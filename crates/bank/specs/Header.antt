@@ -1,10 +1,10 @@
 -- The header of a bank (01, 'Bank and record'), 24 bytes: signature `3VVN`, size (4), generation (4), state, flags, version 1, reserved,
 -- system limit (4), common limit (4). The reserved byte is ignored on reading and written 0.
-use Rattle.std.specs.Prelude.{ℕ, List, [], ◌∷◌, ◌++◌, Bool, ◌&&◌, cond, length, get_or, take, leb, eqb}
+use Rattle.std.specs.Prelude.{ℕ, Result, Ok, Err, List, [], ◌∷◌, ◌++◌, Bool, ◌&&◌, cond, length, get_or, take, leb, eqb}
 use Rattle.buffers.specs.Bytes.{eq_bytes}
 use Rattle.bank.specs.declared.header.StoreHeader.{StoreHeader}
-use Rattle.bank.specs.declared.header.Head.{Head}
-use Rattle.bank.specs.declared.header.Head.TheVariants.{Good, Signature, Version, Size}
+use Rattle.bank.specs.declared.header.HeaderFault.{HeaderFault}
+use Rattle.bank.specs.declared.header.HeaderFault.TheVariants.{Signature, Version, Size}
 use Rattle.bank.specs.Number.{u32_at, le32}
 
 abbrev pub signature : List ℕ
@@ -30,6 +30,6 @@ unfoldable pub signed : List ℕ → Bool
 signed s = leb 24 (length s) && eq_bytes (take 4 s) signature
 
 -- the first fault met, in this order; a size outside 24 to 65,536 is one (01, 'Domain of equality')
-unfoldable pub read_header : List ℕ → Head
+unfoldable pub read_header : List ℕ → Result StoreHeader HeaderFault
 read_header s =
-    cond (signed s) (cond (eqb (get_or s 14 0) 1) (cond (leb 24 (u32_at s 4) && leb (u32_at s 4) 65536) (Good (header_of s)) Size) Version) Signature
+    cond (signed s) (cond (eqb (get_or s 14 0) 1) (cond (leb 24 (u32_at s 4) && leb (u32_at s 4) 65536) (Ok (header_of s)) (Err Size)) (Err Version)) (Err Signature)

@@ -1,10 +1,10 @@
 -- Reading a bank of 65,536 bytes as a slot (01, 'Bank and record').
-use Rattle.std.specs.Prelude.{ℕ, zero, suc, ◌+◌, ◌-◌, List, [], ◌∷◌, Bool, true, false, cond, length, take, drop, ltb, leb, eqb}
+use Rattle.std.specs.Prelude.{ℕ, Result, Ok, Err, zero, suc, ◌+◌, ◌-◌, List, [], ◌∷◌, Bool, true, false, cond, length, take, drop, ltb, leb, eqb}
 use Rattle.crc32.specs.Crc32.{crc32_of}
 use Rattle.buffers.specs.Bytes.{all_blank, all_ff, count_ff}
 use Rattle.bank.specs.declared.header.StoreHeader.{StoreHeader}
-use Rattle.bank.specs.declared.header.Head.{Head}
-use Rattle.bank.specs.declared.header.Head.TheVariants.{Good, Signature, Version, Size}
+use Rattle.bank.specs.declared.header.HeaderFault.{HeaderFault}
+use Rattle.bank.specs.declared.header.HeaderFault.TheVariants.{Signature, Version, Size}
 use Rattle.bank.specs.declared.partition.Stop.{Stop}
 use Rattle.bank.specs.declared.partition.Stop.TheVariants.{Blank, Start, Length, End, Name, Crc}
 use Rattle.bank.specs.Number.{u16_at, u32_at}
@@ -82,11 +82,11 @@ slot_of s h w = cond (spoils w.stop) invalid (valid (bank_of h w.records (usable
 unfoldable pub erased_slot : List ℕ → Slot
 erased_slot s = cond (all_ff s) empty invalid
 
-unfoldable pub after_head : List ℕ → Head → Slot
-after_head s (Good h) = slot_of s h (walk_from s h.size 24)
-after_head s Signature = erased_slot s
-after_head s Version = erased_slot s
-after_head s Size = invalid
+unfoldable pub after_head : List ℕ → Result StoreHeader HeaderFault → Slot
+after_head s (Ok h) = slot_of s h (walk_from s h.size 24)
+after_head s (Err Signature) = erased_slot s
+after_head s (Err Version) = erased_slot s
+after_head s (Err Size) = invalid
 
 unfoldable pub read_bank : List ℕ → Slot
 read_bank s = after_head s (read_header s)

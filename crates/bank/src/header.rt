@@ -2,10 +2,11 @@
 ghost use Rattle.std.specs.Prelude.{◌≡◌};
 ghost use Rattle.bank.specs.Header.{header_bytes, read_header};
 
-use super::number::{le32, u32_at};
+use super::number::u32_at;
 use super::variable::Variable;
 
-#[derive(Clone, Copy)]
+// That its size is of one bank is a fact of what `parse` gives, and no ghost field: the definitions make headers of any size.
+#[derive(Clone, Copy, PartialEq, Eq)]
 pub struct StoreHeader {
     pub size: u32,
     pub generation: u32,
@@ -15,13 +16,12 @@ pub struct StoreHeader {
     pub common_size: u32,
 }
 
-// What the first 24 bytes of a bank are: the first fault met, or a header.
-#[derive(Clone, Copy)]
-pub enum Head {
+// Why the first 24 bytes of a bank are no header: the first fault met.
+#[derive(Clone, Copy, PartialEq, Eq)]
+pub enum HeaderFault {
     Signature,
     Version,
     Size,
-    Good(StoreHeader),
 }
 
 impl StoreHeader {
@@ -32,27 +32,23 @@ impl StoreHeader {
     // A size is of one bank.
     pub const MOST_SIZE: u32 = 65536;
 
-    pub fn parse(nvr: &[u8]) -> Head
+    pub fn parse(nvr: &[u8]) -> Result<StoreHeader, HeaderFault>
         ensures { result ≡ read_header nvr.now }
     {
         if nvr.len() < Variable::STORE_HEADER_SIZE {
-            return Head::Signature;
+            return Err(HeaderFault::Signature);
         }
-        let signature = StoreHeader::SIGNATURE;
-        if !buffers::same(&nvr[0..4], &signature) {
-            return Head::Signature;
+        if !nvr.starts_with(&StoreHeader::SIGNATURE) {
+            return Err(HeaderFault::Signature);
         }
         if nvr[14] != StoreHeader::VERSION {
-            return Head::Version;
+            return Err(HeaderFault::Version);
         }
         let size = u32_at(nvr, 4);
-        if size < Variable::STORE_HEADER_SIZE as u32 {
-            return Head::Size;
+        if size < Variable::STORE_HEADER_SIZE as u32 || StoreHeader::MOST_SIZE < size {
+            return Err(HeaderFault::Size);
         }
-        if StoreHeader::MOST_SIZE < size {
-            return Head::Size;
-        }
-        Head::Good(StoreHeader {
+        Ok(StoreHeader {
             size,
             generation: u32_at(nvr, 8),
             state: nvr[12],
@@ -66,36 +62,15 @@ impl StoreHeader {
     pub fn serialize(self) -> [u8; Variable::STORE_HEADER_SIZE]
         ensures { result ≡ header_bytes self }
     {
-        let sign = StoreHeader::SIGNATURE;
-        let size = le32(self.size);
-        let generation = le32(self.generation);
-        let system = le32(self.system_size);
-        let common = le32(self.common_size);
-        [
-            sign[0],
-            sign[1],
-            sign[2],
-            sign[3],
-            size[0],
-            size[1],
-            size[2],
-            size[3],
-            generation[0],
-            generation[1],
-            generation[2],
-            generation[3],
-            self.state,
-            self.flags,
-            StoreHeader::VERSION,
-            0,
-            system[0],
-            system[1],
-            system[2],
-            system[3],
-            common[0],
-            common[1],
-            common[2],
-            common[3],
-        ]
+        let mut out = [0u8; Variable::STORE_HEADER_SIZE];
+        out[0..4].copy_from_slice(&StoreHeader::SIGNATURE);
+        out[4..8].copy_from_slice(&self.size.to_le_bytes());
+        out[8..12].copy_from_slice(&self.generation.to_le_bytes());
+        out[12] = self.state;
+        out[13] = self.flags;
+        out[14] = StoreHeader::VERSION;
+        out[16..20].copy_from_slice(&self.system_size.to_le_bytes());
+        out[20..24].copy_from_slice(&self.common_size.to_le_bytes());
+        out
     }
 }

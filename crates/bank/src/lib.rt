@@ -6,7 +6,7 @@ mod number;
 mod partition;
 mod variable;
 
-pub use header::{Head, StoreHeader};
-pub use number::le32;
+pub use header::{HeaderFault, StoreHeader};
+pub use number::u32_at;
 pub use partition::{Partition, Slot, Stop, Walked, read_records};
 pub use variable::{VarHeader, VarType, Variable};

@@ -1,20 +1,21 @@
 // A bank of 65,536 bytes: 01, 'Bank and record'.
-ghost use Rattle.std.specs.Prelude.{◌≡◌, ◌+◌, ◌-◌, ◌≤◌, ◌<◌, List, length, take, drop, set};
+ghost use Rattle.std.specs.Prelude.{Ok, ◌≡◌, ◌+◌, ◌-◌, ◌≤◌, ◌<◌, List, length, take, drop, set};
 ghost use Rattle.buffers.specs.Bytes.{over};
 ghost use Rattle.bank.specs.Header.{read_header};
 ghost use Rattle.bank.specs.Record.{Record, name_at, size_at, records_bytes};
 ghost use Rattle.bank.specs.Bank.{Bank, valid, part_of};
-ghost use Rattle.bank.specs.Read.{read_bank, walk_from, usable_at, spoils, erased_slot};
+ghost use Rattle.bank.specs.Read.{read_bank, walk_from, usable_at, spoils};
 ghost use Rattle.bank.specs.Totals.{total as total_of};
 ghost use Rattle.bank.specs.Raw.{Raw};
 ghost use Rattle.bank.specs.Answer.{parsed, answer, walked, serialized_slot, serialized_part};
 
-use super::header::{Head, StoreHeader};
-use super::variable::{Step, VarHeader, Variable};
+use super::header::{HeaderFault, StoreHeader};
+use super::variable::{VarHeader, Variable};
+use crc32::Tables;
 
 // Why reading a bank's records stopped: a blank, a wrong start number, a record over what remains, the end of size; or a name length of 0
 // or an unequal CRC, which make the bank Invalid.
-#[derive(Clone, Copy)]
+#[derive(Clone, Copy, PartialEq, Eq)]
 pub enum Stop {
     Blank,
     Start,
@@ -22,6 +23,15 @@ pub enum Stop {
     End,
     Name,
     Crc,
+}
+
+impl Stop {
+    // Whether the bank is Invalid for it.
+    pub fn spoils(self) -> bool
+        ensures { result ≡ spoils self }
+    {
+        matches!(self, Stop::Name | Stop::Crc)
+    }
 }
 
 // What a bank is known by: its header, and the figures of its records.
@@ -32,10 +42,9 @@ pub struct Partition {
     pub usable_size: usize,
 }
 
-// What 65,536 bytes are as a bank; Short where there are fewer.
+// What 65,536 bytes are as a bank.
 #[derive(Clone, Copy)]
 pub enum Slot {
-    Short,
     Empty,
     Invalid,
     Valid(Partition),
@@ -49,21 +58,22 @@ pub struct Walked {
     pub count: usize,
 }
 
-// The records behind the header, one after the other, of a bank of this size.
-pub fn read_records(nvr: &[u8], size: usize) -> Walked
-    requires { (length nvr.now ≡ 65536) × (size ≤ 65536) }
+// The records behind the header, one after the other, of a bank of this size. By hand: that a record fits, where reading
+// stops and why are facts of the walked bytes, and an iterator would say no less of them in its contract than this loop in its invariant.
+pub fn read_records(nvr: &[u8; Partition::SIZE], size: usize) -> Walked
+    requires { size ≤ 65536 }
     ensures { result ≡ walked 0 (walk_from nvr.now size 24) }
 {
-    let t = crc32::tables();
+    let t = Tables::new();
     let mut at = Variable::STORE_HEADER_SIZE;
     let mut count: usize = 0;
     while at + Variable::HEADER_SIZE < size {
         match Variable::parse(&t, &nvr[at..]) {
-            Step::Next(n) => {
+            Ok(n) => {
                 at += n;
                 count += 1;
             }
-            Step::Halt(stop) => {
+            Err(stop) => {
                 return Walked { at, stop, count };
             }
         }
@@ -76,8 +86,8 @@ pub fn read_records(nvr: &[u8], size: usize) -> Walked
 }
 
 // One past the free bytes behind the records: 01, 'Bank and record'.
-fn usable(stop: Stop, nvr: &[u8], size: usize, at: usize) -> usize
-    requires { (length nvr.now ≡ 65536) × (size ≤ 65536) × (at ≤ 65536) × (stop ≡ Stop.Blank → at + 36 < size) }
+fn usable(stop: Stop, nvr: &[u8; Partition::SIZE], size: usize, at: usize) -> usize
+    requires { (size ≤ 65536) × (at ≤ 65536) × (stop ≡ Stop.Blank → at + 36 < size) }
     ensures { result ≡ usable_at stop nvr.now size at }
 {
     match stop {
@@ -85,37 +95,21 @@ fn usable(stop: Stop, nvr: &[u8], size: usize, at: usize) -> usize
             let from = at + Variable::HEADER_SIZE;
             from + buffers::lead_ff(&nvr[from..size])
         }
-        Stop::Start => at,
-        Stop::Length => at,
-        Stop::End => size,
-        Stop::Name => size,
-        Stop::Crc => size,
-    }
-}
-
-fn faulty(stop: Stop) -> bool
-    ensures { result ≡ spoils stop }
-{
-    match stop {
-        Stop::Blank => false,
-        Stop::Start => false,
-        Stop::Length => false,
-        Stop::End => false,
-        Stop::Name => true,
-        Stop::Crc => true,
+        Stop::Start | Stop::Length => at,
+        Stop::End | Stop::Name | Stop::Crc => size,
     }
 }
 
 // A bank whose header was read.
-fn read_partition(nvr: &[u8], header: StoreHeader) -> Slot
-    requires { (length nvr.now ≡ 65536) × (read_header nvr.now ≡ Head.Good header) }
+fn read_partition(nvr: &[u8; Partition::SIZE], header: StoreHeader) -> Slot
+    requires { read_header nvr.now ≡ Ok header }
     ensures { result ≡ answer (read_bank nvr.now) }
 {
     let size = header.size as usize;
     let walked = read_records(nvr, size);
     let at = walked.at;
     let stop = walked.stop;
-    if faulty(stop) {
+    if stop.spoils() {
         return Slot::Invalid;
     }
     Slot::Valid(Partition {
@@ -123,29 +117,6 @@ fn read_partition(nvr: &[u8], header: StoreHeader) -> Slot
         total_used: at,
         usable_size: usable(stop, nvr, size, at),
     })
-}
-
-// A bank that has no header.
-fn read_erased(nvr: &[u8]) -> Slot
-    ensures { result ≡ answer (erased_slot nvr.now) }
-{
-    if buffers::all_ff(nvr) {
-        Slot::Empty
-    } else {
-        Slot::Invalid
-    }
-}
-
-fn read_slot(nvr: &[u8]) -> Slot
-    requires { length nvr.now ≡ 65536 }
-    ensures { result ≡ answer (read_bank nvr.now) }
-{
-    match StoreHeader::parse(nvr) {
-        Head::Good(header) => read_partition(nvr, header),
-        Head::Size => Slot::Invalid,
-        Head::Version => read_erased(nvr),
-        Head::Signature => read_erased(nvr),
-    }
 }
 
 // Zeros the reserved and closing bytes of the record that begins s, and answers its size.
@@ -160,7 +131,7 @@ fn normalize(s: &mut [u8]) -> usize
     Variable::size(header.name_size, header.data_size)
 }
 
-// The same for each record from the header's end up to total.
+// The same for each record from the header's end up to total; by hand, since each changes the bytes that say where the next begins.
 fn normalize_all(s: &mut [u8], total: usize)
     requires { (24 ≤ total) × (total ≤ length s.old) × ((rs : List Record) × Raw (take (total - 24) (drop 24 s.old)) rs) }
     ensures { (rs : List Record) → Raw (take (total - 24) (drop 24 s.old)) rs → s.new ≡ over 24 (records_bytes rs) s.old }
@@ -171,9 +142,10 @@ fn normalize_all(s: &mut [u8], total: usize)
     }
 }
 
-// The first total bytes of a bank as they would be written, and 0xFF after them.
-fn write(nvr: &[u8], total: usize, out: &mut [u8])
-    requires { (length nvr.now ≡ 65536) × (65536 ≤ length out.old) × ((b : Bank) × (read_bank nvr.now ≡ valid b) × (total ≡ total_of b)) }
+// The first total bytes of a bank as they would be written, and 0xFF after them. That the bank was read with this total is `read`'s answer; a type that
+// said so would hold the bank beside it.
+fn write(nvr: &[u8; Partition::SIZE], total: usize, out: &mut [u8])
+    requires { (65536 ≤ length out.old) × ((b : Bank) × (read_bank nvr.now ≡ valid b) × (total ≡ total_of b)) }
     ensures { out.new ≡ part_of (length out.old) (read_bank nvr.now) }
 {
     buffers::copy(&nvr[0..total], out);
@@ -186,38 +158,38 @@ impl Partition {
     // A bank's bytes in an image.
     pub const SIZE: usize = 65536;
 
-    // The bank in the first 65,536 bytes lent.
-    pub fn parse(nvr: &[u8]) -> Slot
-        ensures { result ≡ parsed nvr.now }
+    pub fn read(nvr: &[u8; Partition::SIZE]) -> Slot
+        ensures { result ≡ answer (read_bank nvr.now) }
     {
-        if nvr.len() < Partition::SIZE {
-            return Slot::Short;
+        match StoreHeader::parse(nvr) {
+            Ok(header) => read_partition(nvr, header),
+            Err(fault) if fault != HeaderFault::Size && buffers::all_ff(nvr) => Slot::Empty,
+            Err(_) => Slot::Invalid,
         }
-        read_slot(&nvr[0..Partition::SIZE])
     }
 
-    // The same, and the bank as it would be written, with 0xFF up to the end of the part lent; a slot that isn't Valid is all 0xFF. Too few
-    // bytes of either are Short, and leave the part.
-    pub fn serialize(nvr: &[u8], out: &mut [u8]) -> Slot
+    // The bank in the first 65,536 bytes lent.
+    pub fn parse(nvr: &[u8]) -> Option<Slot>
+        ensures { result ≡ parsed nvr.now }
+    {
+        let bank = nvr.first_chunk::<{ Partition::SIZE }>()?;
+        Some(Partition::read(bank))
+    }
+
+    // The same, and the bank as it would be written, with 0xFF up to the end of the part lent; a slot that isn't Valid is all 0xFF. Where
+    // fewer than 65,536 bytes of either are lent there is no slot, and the part is left.
+    pub fn serialize(nvr: &[u8], out: &mut [u8]) -> Option<Slot>
         ensures { (result ≡ serialized_slot nvr.now out.old) × (out.new ≡ serialized_part nvr.now out.old) }
     {
+        let bank = nvr.first_chunk::<{ Partition::SIZE }>()?;
         if out.len() < Partition::SIZE {
-            return Slot::Short;
+            return None;
         }
-        let slot = Partition::parse(nvr);
+        let slot = Partition::read(bank);
         match slot {
-            Slot::Valid(p) => {
-                let total = p.total_used;
-                write(&nvr[0..Partition::SIZE], total, out);
-            }
-            Slot::Short => {}
-            Slot::Empty => {
-                buffers::fill_ff(out);
-            }
-            Slot::Invalid => {
-                buffers::fill_ff(out);
-            }
+            Slot::Valid(p) => write(bank, p.total_used, out),
+            _ => buffers::fill_ff(out),
         }
-        slot
+        Some(slot)
     }
 }

@@ -1,22 +1,22 @@
 // A record: 01, 'Bank and record'.
 ghost use Rattle.std.specs.Prelude.{◌≡◌, ◌+◌, ◌≤◌, length};
-ghost use Rattle.crc32.specs.Table.{IsTables};
 ghost use Rattle.bank.specs.Record.{var_header_bytes, type_of, guid_of, deleted_state};
 ghost use Rattle.bank.specs.Read.{found};
 ghost use Rattle.bank.specs.Answer.{step_of, fresh_header, parsed_header};
 
-use super::number::{le32, u16_at, u32_at};
+use super::number::u32_at;
 use super::partition::Stop;
+use crc32::Tables;
 
 // System by its GUID, else Common.
-#[derive(Clone, Copy)]
+#[derive(Clone, Copy, PartialEq, Eq)]
 pub enum VarType {
     Common,
     System,
 }
 
 // A record's 36 bytes in front of name and value. Name size counts the closing byte.
-#[derive(Clone, Copy)]
+#[derive(Clone, Copy, Default)]
 pub struct VarHeader {
     pub state: u8,
     pub attrs: u32,
@@ -24,13 +24,6 @@ pub struct VarHeader {
     pub data_size: u32,
     pub guid: [u8; 16],
     pub crc: u32,
-}
-
-// What stands at an offset of a bank: a record of so many bytes, or the reason to stop there.
-#[derive(Clone, Copy)]
-pub enum Step {
-    Next(usize),
-    Halt(Stop),
 }
 
 // The record type: its sizes, states and masks, and what is made without a record at hand.
@@ -82,8 +75,7 @@ impl Variable {
     pub fn typ(guid: &[u8]) -> VarType
         ensures { result ≡ type_of guid.now }
     {
-        let system = Variable::SYSTEM_GUID;
-        if buffers::same(guid, &system) {
+        if buffers::same(guid, &Variable::SYSTEM_GUID) {
             VarType::System
         } else {
             VarType::Common
@@ -116,50 +108,46 @@ impl Variable {
         }
     }
 
-    // What begins nvr, which is what remains of a bank's 65,536 bytes; t are the checksum's tables.
-    pub(crate) fn parse(t: &[u32; 4096], nvr: &[u8]) -> Step
-        requires { (36 ≤ length nvr.now) × IsTables 16 t.now }
+    // The size of the record that begins nvr, which is what remains of a bank's 65,536 bytes, or the reason to stop there; t are the checksum's
+    // tables. That a header fits is required: an array of its 36 bytes would stand beside the rest, and have
+    // the same bytes.
+    pub(crate) fn parse(t: &Tables, nvr: &[u8]) -> Result<usize, Stop>
+        requires { 36 ≤ length nvr.now }
         ensures { result ≡ step_of (found nvr.now) }
     {
         if buffers::all_blank(&nvr[0..Variable::HEADER_SIZE]) {
-            return Step::Halt(Stop::Blank);
+            return Err(Stop::Blank);
         }
-        if u16_at(nvr, 0) != Variable::DATA {
-            return Step::Halt(Stop::Start);
+        if u16::from_le_bytes([nvr[0], nvr[1]]) != Variable::DATA {
+            return Err(Stop::Start);
         }
         let header = VarHeader::parse(nvr);
         let end = Variable::size(header.name_size, header.data_size);
         if nvr.len() < end {
-            return Step::Halt(Stop::Length);
+            return Err(Stop::Length);
         }
         if header.name_size == 0 {
-            return Step::Halt(Stop::Name);
+            return Err(Stop::Name);
         }
         let value = Variable::size(header.name_size, 0);
-        if header.crc != crc32::crc32_with(t, &nvr[value..end]) {
-            return Step::Halt(Stop::Crc);
+        if header.crc != t.crc32(&nvr[value..end]) {
+            return Err(Stop::Crc);
         }
-        Step::Next(end)
+        Ok(end)
     }
 }
 
 impl VarHeader {
-    // The header that begins nvr; zeros where fewer than 36 bytes are lent.
+    // The header that begins nvr; zeros where fewer than 36 bytes are lent. No Option: each caller has 36 bytes by proof, and its arm for fewer
+    // would never run.
     pub fn parse(nvr: &[u8]) -> VarHeader
         ensures { result ≡ parsed_header nvr.now }
     {
-        let mut guid = [0u8; 16];
         if nvr.len() < Variable::HEADER_SIZE {
-            return VarHeader {
-                state: 0,
-                attrs: 0,
-                name_size: 0,
-                data_size: 0,
-                guid,
-                crc: 0,
-            };
+            return VarHeader::default();
         }
-        buffers::copy(&nvr[16..32], &mut guid);
+        let mut guid = [0; 16];
+        guid.copy_from_slice(&nvr[16..32]);
         VarHeader {
             state: nvr[2],
             attrs: u32_at(nvr, 4),
@@ -174,21 +162,14 @@ impl VarHeader {
     pub fn serialize(self) -> [u8; Variable::HEADER_SIZE]
         ensures { result ≡ var_header_bytes self.state self.attrs self.name_size self.data_size self.guid self.crc }
     {
-        let data = Variable::DATA;
         let mut out = [0u8; Variable::HEADER_SIZE];
-        out[0] = (data % 256) as u8;
-        out[1] = (data / 256) as u8;
+        out[0..2].copy_from_slice(&Variable::DATA.to_le_bytes());
         out[2] = self.state;
-        let attrs = le32(self.attrs);
-        let name_size = le32(self.name_size);
-        let data_size = le32(self.data_size);
-        let guid = self.guid;
-        let crc = le32(self.crc);
-        buffers::copy(&attrs, &mut out[4..]);
-        buffers::copy(&name_size, &mut out[8..]);
-        buffers::copy(&data_size, &mut out[12..]);
-        buffers::copy(&guid, &mut out[16..]);
-        buffers::copy(&crc, &mut out[32..]);
+        out[4..8].copy_from_slice(&self.attrs.to_le_bytes());
+        out[8..12].copy_from_slice(&self.name_size.to_le_bytes());
+        out[12..16].copy_from_slice(&self.data_size.to_le_bytes());
+        out[16..32].copy_from_slice(&self.guid);
+        out[32..36].copy_from_slice(&self.crc.to_le_bytes());
         out
     }
 }

@@ -6,11 +6,12 @@ use Rattle.bank.specs.declared.partition.Partition.{Partition}
 use Rattle.bank.specs.Bank.{Bank}
 use Rattle.bank.specs.Totals.{total}
 use Rattle.bank.specs.Answer.{partition_of}
+use Rattle.text.specs.declared.Writer.{Writer}
 use Rattle.text.specs.Put.{Room, Put}
 use Rattle.text.proofs.PutLaws.{join, front, back}
 use Rattle.banklist.specs.Listing.{bank_line, record_lines, used_line, bank_lines}
 
-module _ (b : Bank) {p : Partition} {w : List ℕ} (e : p ≡ partition_of b) (r : Room 0 (bank_lines b) w) where
+module _ (b : Bank) {p : Partition} {w : Writer} (e : p ≡ partition_of b) (r : Room w (bank_lines b)) where
   abbrev rest : List ℕ
   rest = record_lines 0 b.records ++ used_line (total b) b.usable
 
@@ -26,22 +27,22 @@ module _ (b : Bank) {p : Partition} {w : List ℕ} (e : p ≡ partition_of b) (r
   unfolding partition_of
   usable_is = ap (λ (x : Partition). x.usable_size) e
 
-  pub room_first : Room 0 (bank_line p.header) w
+  pub room_first : Room w (bank_line p.header)
   unfolding bank_lines
   room_first = rw header_is (front rest r)
 
-  module _ {at : ℕ} {u : List ℕ} (a : Put 0 at (bank_line p.header) w u) where
-    behind : Room at rest u
+  module _ {u : Writer} (a : Put w u (bank_line p.header)) where
+    behind : Room u rest
     unfolding bank_lines
     behind = back rest (rw header_is at a) r
 
-    pub room_records : Room at (record_lines 0 b.records) u
+    pub room_records : Room u (record_lines 0 b.records)
     room_records = front (used_line (total b) b.usable) behind
 
-    module _ {q : ℕ} {v : List ℕ} (c : Put at q (record_lines 0 b.records) u v) where
-      pub room_last : Room q (used_line p.total_used p.usable_size) v
+    module _ {v : Writer} (c : Put u v (record_lines 0 b.records)) where
+      pub room_last : Room v (used_line p.total_used p.usable_size)
       room_last = rw (total_is, usable_is) (back (used_line (total b) b.usable) c behind)
 
-      pub all_put : {n : ℕ} {x : List ℕ} → Put q n (used_line p.total_used p.usable_size) v x → Put 0 n (bank_lines b) w x
+      pub all_put : {x : Writer} → Put v x (used_line p.total_used p.usable_size) → Put w x (bank_lines b)
       unfolding bank_lines
       all_put d = join (rw header_is at a) (join c (rw (total_is, usable_is) at d))

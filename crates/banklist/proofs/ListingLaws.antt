@@ -1,41 +1,47 @@
 -- The listing by what a bank's reader answers.
-use Prim.Native.Nat.{ℕ, ◌≤◌}
-use mathlib.Core.Path.{◌≡◌, refl}
+use Prim.Native.Nat.{ℕ, ◌<◌}
+use mathlib.Core.Path.{◌≡◌, refl, sym}
 use mathlib.Core.List.{List, [], ◌∷◌}
-use mathlib.Core.Bool.{Bool, true, false, cond}
-use lib.Dec.{leb}
-use lib.ListN.{length, take}
-use borrow.Author.Tests.{leb-true}
+use lib.ListN.{length}
+use Rattle.std.specs.Array.{IsFirstChunk}
 use Rattle.bank.specs.declared.partition.Slot.{Slot}
-use Rattle.bank.specs.declared.partition.Slot.TheVariants.{Short, Empty, Invalid, Valid}
+use Rattle.bank.specs.declared.partition.Slot.TheVariants.{Empty, Invalid, Valid}
 use Rattle.bank.specs.declared.partition.Partition.{Partition}
-use Rattle.bank.specs.Bank.{Slot as BankSlot, Bank, empty, invalid, valid, bank_size}
+use Rattle.bank.specs.Bank.{Slot as BankSlot, Bank, empty, invalid, valid}
 use Rattle.bank.specs.Read.{read_bank}
-use Rattle.bank.specs.Answer.{partition_of, answer, parsed}
+use Rattle.bank.proofs.PartitionLaws.{lent_short, lent_first}
+use Rattle.bank.specs.Answer.{partition_of, answer}
 use Rattle.text.specs.Text.{line}
 use Rattle.text.specs.Words.{short_word, empty_word}
 use Rattle.banklist.specs.Listing.{invalid_word, bank_lines, slot_lines, listing}
 
 -- the bank that a Valid answer stands for
-pub record Stood (s : List ℕ) (p : Partition) : Type 0 where
+pub record Stood (k : BankSlot) (p : Partition) : Type 0 where
   pub bank : Bank
-  pub long : bank_size ≤ length s
-  pub read : read_bank (take bank_size s) ≡ valid bank
+  pub read : k ≡ valid bank
   pub is : p ≡ partition_of bank
-  pub lists : listing s ≡ bank_lines bank
+  pub lists : slot_lines k ≡ bank_lines bank
 
-abbrev pub Said : List ℕ → Slot → Type 0
-Said s Short = listing s ≡ line (short_word ∷ [])
-Said s Empty = listing s ≡ line (empty_word ∷ [])
-Said s Invalid = listing s ≡ line (invalid_word ∷ [])
-Said s (Valid p) = Stood s p
+abbrev pub Said : BankSlot → Slot → Type 0
+Said k Empty = slot_lines k ≡ line (empty_word ∷ [])
+Said k Invalid = slot_lines k ≡ line (invalid_word ∷ [])
+Said k (Valid p) = Stood k p
 
-pub said : (s : List ℕ) (o : Slot) → o ≡ parsed s → Said s o
-unfolding parsed answer listing slot_lines
-said s o e = rw e (go (leb bank_size (length s)) refl (read_bank (take bank_size s)) refl)
+pub said : (k : BankSlot) (o : Slot) → o ≡ answer k → Said k o
+unfolding answer slot_lines
+said k o e = rw e (go k)
   where
-    go : (t : Bool) → leb bank_size (length s) ≡ t → (k : BankSlot) → read_bank (take bank_size s) ≡ k → Said s (cond t (answer k) Short)
-    go true t empty k = rw (t, k)
-    go true t invalid k = rw (t, k)
-    go true t (valid b) k = record { bank = b; long = leb-true _ _ t; read = k; is = refl; lists = rw (t, k) }
-    go false t b k = rw t
+    go : (k : BankSlot) → Said k (answer k)
+    go empty = refl
+    go invalid = refl
+    go (valid b) = record { bank = b; read = refl; is = refl; lists = refl }
+
+-- the listing of bytes that are too few for a bank, and of a bank in front
+
+pub too_few : (s : List ℕ) → length s < 65536 → listing s ≡ line (short_word ∷ [])
+unfolding listing
+too_few s h = sym (lent_short (line (short_word ∷ [])) (λ b. slot_lines (read_bank b)) s h)
+
+pub in_front : (s b : List ℕ) → IsFirstChunk s b 65536 → listing s ≡ slot_lines (read_bank b)
+unfolding listing
+in_front s b h = sym (lent_first (line (short_word ∷ [])) (λ x. slot_lines (read_bank x)) s b h)

@@ -17,6 +17,7 @@ use Rattle.bank.specs.Answer.{var_header, parsed_header}
 use Rattle.bank.proofs.WalkLaws.{Stands, stands_size, walk_ind}
 use Rattle.bank.proofs.FieldLaws.{header_long}
 use Rattle.bank.proofs.ReadBank.{came, came_total}
+use Rattle.text.specs.declared.Writer.{Writer}
 use Rattle.text.specs.Put.{Room, Put}
 use Rattle.text.proofs.PutLaws.{put_none, join, front, back}
 use Rattle.banklist.specs.Listing.{fields_line, record_line, record_lines}
@@ -100,21 +101,21 @@ module _ (s : List ℕ) (at : ℕ) (k : Stands (drop at s) (record_of (drop at s
       f ∙ cc (key, value, k.summed)
 
 -- the lines of the records before an offset are put, and those from it on are left
-pub record ToList (s out₀ : List ℕ) (from end : ℕ) (out : List ℕ) (p at index : ℕ) : Type 0 where
+pub record ToList (s : List ℕ) (v₀ : Writer) (end : ℕ) (v : Writer) (at index : ℕ) : Type 0 where
   pub lines : List ℕ
   pub todo : List Record
   pub stand : RecordsStand s at end todo
-  pub put : Put from p lines out₀ out
-  pub room : Room p (record_lines index todo) out
+  pub put : Put v₀ v lines
+  pub room : Room v (record_lines index todo)
   pub all : (b : Bank) → read_bank s ≡ valid b → record_lines 0 b.records ≡ lines ++ record_lines index todo
   pub counted : index ≤ at
   pub low : at ≤ end
   pub high : end ≤ length s
 
-pub left_all : (s out : List ℕ) (from end : ℕ) (b : Bank) → 24 ≤ length s → read_bank s ≡ valid b → end ≡ total b
-    → Room from (record_lines 0 b.records) out
-    → ToList s out from end out from 24 0
-left_all s out from end b l e t r =
+pub left_all : (s : List ℕ) (v : Writer) (end : ℕ) (b : Bank) → 24 ≤ length s → read_bank s ≡ valid b → end ≡ total b
+    → Room v (record_lines 0 b.records)
+    → ToList s v end v 24 0
+left_all s v end b l e t r =
     let c = came s b e in
     let w = walk_from s b.header.size 24 in
     let q : w.at ≡ end = sym (t ∙ came_total s b c) in
@@ -125,7 +126,7 @@ left_all s out from end b l e t r =
       lines = [];
       todo = b.records;
       stand = k;
-      put = put_none from out (omega (arith, r.fits));
+      put = put_none v (omega (arith, r.fits));
       room = r;
       all = λ (d : Bank) f. let z : d ≡ b = cc in ap (λ (x : Bank). record_lines 0 x.records) z;
       counted = omega arith;
@@ -133,14 +134,17 @@ left_all s out from end b l e t r =
       high = stand_high s b.records 24 end l k;
     }
 
-module _ {s out₀ out : List ℕ} {from end p at index : ℕ} (l : ToList s out₀ from end out p at index) where
+module _ {s : List ℕ} {v₀ v : Writer} {end at index : ℕ} (l : ToList s v₀ end v at index) where
   -- a turn, by what the code is told of the part from the offset on
-  module _ (before : at < end) (h : VarHeader) (e : h ≡ parsed_header (take (length s - at) (drop at s))) where
+  module _ (before : at < end) (h : VarHeader) {m : ℕ} (long : length s ≡ m) (e : h ≡ parsed_header (take (m - at) (drop at s))) where
+    told : h ≡ parsed_header (take (length s - at) (drop at s))
+    told = subst (λ (n : ℕ). h ≡ parsed_header (take (n - at) (drop at s))) (sym long) e
+
     next : Next s at end l.todo
     next = stand_next s l.todo at end l.stand before
 
     pub left_sized : HeaderAt s at h
-    left_sized = sized s at next.stands h e
+    left_sized = sized s at next.stands h told
 
     module _ (n : ℕ) (q : n ≡ 36 + h.name_size + 0) where
       abbrev rest : List ℕ
@@ -148,13 +152,12 @@ module _ {s out₀ out : List ℕ} {from end p at index : ℕ} (l : ToList s out
 
       split : record_lines index l.todo ≡ spelled s at index h n ++ rest
       unfolding record_lines
-      split = ap (record_lines index) next.is ∙ ap (λ (x : List ℕ). x ++ rest) (sym (line_here s at next.stands h e index n q))
+      split = ap (record_lines index) next.is ∙ ap (λ (x : List ℕ). x ++ rest) (sym (line_here s at next.stands h told index n q))
 
-      pub left_room : Room p (spelled s at index h n) out
+      pub left_room : Room v (spelled s at index h n)
       left_room = front rest (rw split at l.room)
 
-      pub left_turn : {o : ℕ} {out₁ : List ℕ} (m : ℕ) → m ≡ 36 + h.name_size + h.data_size → Put p o (spelled s at index h n) out out₁
-          → ToList s out₀ from end out₁ o (at + m) (index + 1)
+      pub left_turn : {w : Writer} (m : ℕ) → m ≡ 36 + h.name_size + h.data_size → Put v w (spelled s at index h n) → ToList s v₀ end w (at + m) (index + 1)
       left_turn m g a =
           let z = left_sized in
           let i : at + size_at (drop at s) ≡ at + m = omega arith in
@@ -172,7 +175,7 @@ module _ {s out₀ out : List ℕ} {from end p at index : ℕ} (l : ToList s out
             high = l.high;
           }
 
-  pub left_none : end ≤ at → (b : Bank) → read_bank s ≡ valid b → Put from p (record_lines 0 b.records) out₀ out
+  pub left_none : end ≤ at → (b : Bank) → read_bank s ≡ valid b → Put v₀ v (record_lines 0 b.records)
   unfolding record_lines
   left_none h b e =
       let z : record_lines index l.todo ≡ [] = ap (record_lines index) (stand_none s l.todo at end l.stand h) in

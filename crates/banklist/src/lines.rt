@@ -4,63 +4,61 @@ ghost use Rattle.text.specs.Put.{Room, Put};
 ghost use Rattle.banklist.specs.Listing.{type_word, key_word, bank_line, fields_line, used_line};
 
 use bank::{StoreHeader, VarHeader, VarType, Variable};
-use text::{FEED, SPACE, be32, put_all, put_hex, put_number};
+use text::{FEED, SPACE, Writer};
 
-pub(crate) fn bank_line(out: &mut [u8], at: usize, h: StoreHeader) -> usize
-    requires { Room at (bank_line h) out.old }
-    ensures { Put at result (bank_line h) out.old out.new }
+pub(crate) fn bank_line(w: &mut Writer, h: StoreHeader)
+    requires { Room w.old (bank_line h) }
+    ensures { Put w.old w.new (bank_line h) }
 {
-    let at = put_all(out, at, b"bank ");
-    let at = put_number(out, at, h.size as u64, SPACE);
-    let at = put_number(out, at, h.generation as u64, SPACE);
-    let at = put_number(out, at, h.system_size as u64, SPACE);
-    put_number(out, at, h.common_size as u64, FEED)
+    w.put_all(b"bank ");
+    w.put_number(u64::from(h.size), SPACE);
+    w.put_number(u64::from(h.generation), SPACE);
+    w.put_number(u64::from(h.system_size), SPACE);
+    w.put_number(u64::from(h.common_size), FEED);
 }
 
 #[tactic(auto, unfolding(crate::specs::Listing::type_word, text::specs::Text::field))]
-fn put_type(out: &mut [u8], at: usize, typ: VarType) -> usize
-    requires { Room at (field (type_word typ) 0x20) out.old }
-    ensures { Put at result (field (type_word typ) 0x20) out.old out.new }
+fn put_type(w: &mut Writer, typ: VarType)
+    requires { Room w.old (field (type_word typ) 0x20) }
+    ensures { Put w.old w.new (field (type_word typ) 0x20) }
 {
     match typ {
-        VarType::System => put_all(out, at, b"S "),
-        VarType::Common => put_all(out, at, b"C "),
+        VarType::System => w.put_all(b"S "),
+        VarType::Common => w.put_all(b"C "),
     }
 }
 
 #[tactic(auto, using(crate::proofs::KeyLaws::key_none, crate::proofs::KeyLaws::key_some), unfolding(text::specs::Text::field))]
-fn put_key(out: &mut [u8], at: usize, key: &[u8]) -> usize
-    requires { Room at (field (key_word key.now) 0x20) out.old }
-    ensures { Put at result (field (key_word key.now) 0x20) out.old out.new }
+fn put_key(w: &mut Writer, key: &[u8])
+    requires { Room w.old (field (key_word key.now) 0x20) }
+    ensures { Put w.old w.new (field (key_word key.now) 0x20) }
 {
-    if key.len() == 0 {
-        put_all(out, at, b"- ")
+    if key.is_empty() {
+        w.put_all(b"- ");
     } else {
-        put_hex(out, at, key, SPACE)
+        w.put_hex(key, SPACE);
     }
 }
 
-pub(crate) fn record_line(out: &mut [u8], at: usize, index: u64, h: VarHeader, key: &[u8]) -> usize
-    requires { Room at (fields_line index h.state h.guid key.now h.data_size h.crc) out.old }
-    ensures { Put at result (fields_line index h.state h.guid key.now h.data_size h.crc) out.old out.new }
+pub(crate) fn record_line(w: &mut Writer, index: u64, h: VarHeader, key: &[u8])
+    requires { Room w.old (fields_line index h.state h.guid key.now h.data_size h.crc) }
+    ensures { Put w.old w.new (fields_line index h.state h.guid key.now h.data_size h.crc) }
 {
-    let state = [h.state];
     let guid = h.guid;
-    let crc = be32(h.crc);
-    let at = put_number(out, at, index, SPACE);
-    let at = put_hex(out, at, &state, SPACE);
-    let at = put_type(out, at, Variable::typ(&guid));
-    let at = put_key(out, at, key);
-    let at = put_number(out, at, h.data_size as u64, SPACE);
-    put_hex(out, at, &crc, FEED)
+    w.put_number(index, SPACE);
+    w.put_hex(&[h.state], SPACE);
+    put_type(w, Variable::typ(&guid));
+    put_key(w, key);
+    w.put_number(u64::from(h.data_size), SPACE);
+    w.put_hex(&h.crc.to_be_bytes(), FEED);
 }
 
-pub(crate) fn used_line(out: &mut [u8], at: usize, used: usize, usable: usize) -> usize
-    requires { Room at (used_line used usable) out.old }
-    ensures { Put at result (used_line used usable) out.old out.new }
+pub(crate) fn used_line(w: &mut Writer, used: usize, usable: usize)
+    requires { Room w.old (used_line used usable) }
+    ensures { Put w.old w.new (used_line used usable) }
 {
-    let at = put_all(out, at, b"used ");
-    let at = put_number(out, at, used as u64, SPACE);
-    let at = put_all(out, at, b"usable ");
-    put_number(out, at, usable as u64, FEED)
+    w.put_all(b"used ");
+    w.put_number(used as u64, SPACE);
+    w.put_all(b"usable ");
+    w.put_number(usable as u64, FEED);
 }

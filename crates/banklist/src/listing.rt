@@ -1,6 +1,6 @@
 // A bank's listing: 01, 'Bench cases'.
-ghost use Rattle.std.specs.Prelude.{◌≡◌, length};
-ghost use Rattle.bank.specs.Bank.{Bank, valid, bank_size};
+ghost use Rattle.std.specs.Prelude.{◌≡◌};
+ghost use Rattle.bank.specs.Bank.{Bank, valid};
 ghost use Rattle.bank.specs.Read.{read_bank};
 ghost use Rattle.bank.specs.Totals.{total as total_of};
 ghost use Rattle.bank.specs.Answer.{partition_of};
@@ -9,39 +9,49 @@ ghost use Rattle.banklist.specs.Listing.{record_lines, bank_lines, listing as li
 
 use super::lines::{bank_line, record_line, used_line};
 use bank::{Partition, Slot, VarHeader, Variable};
-use text::put_all;
+use text::Writer;
 
 // Bytes enough for any listing: a record of n bytes makes a line of at most 2 * n.
 pub(crate) const OUT: usize = 3 * Partition::SIZE;
 
-// The records' lines, walked in the bank's own bytes up to total.
-fn record_lines(out: &mut [u8], from: usize, nvr: &[u8], total: usize) -> usize
-    requires { (length nvr.now ≡ bank_size) × ((b : Bank) × (read_bank nvr.now ≡ valid b) × (total ≡ total_of b) × Room from (record_lines 0 b.records) out.old) }
-    ensures { (b : Bank) → read_bank nvr.now ≡ valid b → Put from result (record_lines 0 b.records) out.old out.new }
+// The records' lines, walked in the bank's own bytes up to total: by hand, as `bank` walks them.
+fn record_lines(w: &mut Writer, nvr: &[u8; Partition::SIZE], total: usize)
+    requires { (b : Bank) × (read_bank nvr.now ≡ valid b) × (total ≡ total_of b) × Room w.old (record_lines 0 b.records) }
+    ensures { (b : Bank) → read_bank nvr.now ≡ valid b → Put w.old w.new (record_lines 0 b.records) }
 {
-    let mut p = from;
     let mut at = Variable::STORE_HEADER_SIZE;
     let mut index: u64 = 0;
     while at < total {
         let h = VarHeader::parse(&nvr[at..]);
         let key = at + Variable::HEADER_SIZE;
         let closing = at + Variable::size(h.name_size, 0) - 1;
-        p = record_line(out, p, index, h, &nvr[key..closing]);
+        record_line(w, index, h, &nvr[key..closing]);
         at += Variable::size(h.name_size, h.data_size);
         index += 1;
     }
-    p
 }
 
-fn bank_lines(out: &mut [u8], nvr: &[u8], p: Partition) -> usize
-    requires { (length nvr.now ≡ bank_size) × ((b : Bank) × (read_bank nvr.now ≡ valid b) × (p ≡ partition_of b) × Room 0 (bank_lines b) out.old) }
-    ensures { (b : Bank) → read_bank nvr.now ≡ valid b → Put 0 result (bank_lines b) out.old out.new }
+fn bank_lines(w: &mut Writer, nvr: &[u8; Partition::SIZE], p: Partition)
+    requires { (b : Bank) × (read_bank nvr.now ≡ valid b) × (p ≡ partition_of b) × Room w.old (bank_lines b) }
+    ensures { (b : Bank) → read_bank nvr.now ≡ valid b → Put w.old w.new (bank_lines b) }
 {
-    let header = p.header;
-    let total = p.total_used;
-    let at = bank_line(out, 0, header);
-    let at = record_lines(out, at, nvr, total);
-    used_line(out, at, total, p.usable_size)
+    bank_line(w, p.header);
+    record_lines(w, nvr, p.total_used);
+    used_line(w, p.total_used, p.usable_size);
+}
+
+fn put_listing(w: &mut Writer, nvr: &[u8])
+    requires { Room w.old (listing_of nvr.now) }
+    ensures { Put w.old w.new (listing_of nvr.now) }
+{
+    let Some(bank) = nvr.first_chunk::<{ Partition::SIZE }>() else {
+        return w.put_all(b"short\n");
+    };
+    match Partition::read(bank) {
+        Slot::Empty => w.put_all(b"empty\n"),
+        Slot::Invalid => w.put_all(b"invalid\n"),
+        Slot::Valid(p) => bank_lines(w, bank, p),
+    }
 }
 
 // The listing of what nvr begins with, at the front of out, and its length; 0, and out as it was, where out has fewer than OUT bytes.
@@ -52,10 +62,7 @@ pub(crate) fn listing(nvr: &[u8], out: &mut [u8]) -> usize
     if out.len() < OUT {
         return 0;
     }
-    match Partition::parse(nvr) {
-        Slot::Short => put_all(out, 0, b"short\n"),
-        Slot::Empty => put_all(out, 0, b"empty\n"),
-        Slot::Invalid => put_all(out, 0, b"invalid\n"),
-        Slot::Valid(p) => bank_lines(out, &nvr[0..Partition::SIZE], p),
-    }
+    let mut w = Writer::new(out);
+    put_listing(&mut w, nvr);
+    w.at
 }

@@ -2,7 +2,7 @@
 use Prim.Native.Nat.{ℕ}
 use mathlib.Core.Path.{◌≡◌, refl, ap}
 use mathlib.Core.Bool.{cond}
-use mathlib.Core.Option.{none}
+use Rattle.std.specs.Prelude.{None}
 use lib.Dec.{ltb}
 use Rattle.tally.specs.declared.Caller.{Caller}
 use Rattle.bank.specs.Bank.{Slot, empty, invalid, valid, bank_size}
@@ -19,4 +19,4 @@ module _ (b : Book) (way : Way) (caller other : Caller) (room : ℕ) where
 
   pub any_caller : step b (commit way caller room) ≡ step b (commit way other room)
   unfolding step commit_to
-  any_caller = ap (cond (ltb room bank_size) (stay b (committed 5 none 0 0))) (slot_same (active_slot b))
+  any_caller = ap (cond (ltb room bank_size) (stay b (committed 5 None 0 0))) (slot_same (active_slot b))

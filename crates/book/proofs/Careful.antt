@@ -4,7 +4,7 @@ use Prim.Native.Nat.{ℕ}
 use mathlib.Core.Path.{◌≡◌, refl, ap}
 use mathlib.Core.Logic.{◌≢◌}
 use mathlib.Core.Bool.{Bool, true, false}
-use mathlib.Core.Option.{Option, none}
+use Rattle.std.specs.Prelude.{Option, None}
 use native.Mathlib.Omega.{arith}
 use lib.Dec.{ltb}
 use borrow.Author.Tests.{le-leb, lt-leb, ltb-true, ltb-false}
@@ -18,9 +18,9 @@ use Rattle.book.specs.Call.{commit, committed, number, Outcome, stay, overflows,
 
 -- an outcome of the old commit, and the careful one's
 data Beside (b : Book) : Outcome → Outcome → Type 0 where
-  refuses : (n : ℕ) → Beside b (stay b (committed n none 0 0)) (stay b (committed n none 0 0))
+  refuses : (n : ℕ) → Beside b (stay b (committed n None 0 0)) (stay b (committed n None 0 0))
   accepts : (o : Outcome) → number o.answer ≡ 0 → Beside b o o
-  exceeds : (k : Bank) (e : Option ℕ) → Beside b (overflows b k e) (stay b (committed 12 none 0 0))
+  exceeds : (k : Bank) (e : Option ℕ) → Beside b (overflows b k e) (stay b (committed 12 None 0 0))
 
 module _ (b : Book) where
   beside_judged : (k : Bank) (j : Judged) → Beside b (commit_as b k j) (commit_as b k (carefully (live_total k) k.header.size j))
@@ -57,11 +57,11 @@ module _ (b : Book) where
         go o c (accepts x e) h = refl
         go o c (exceeds k e) h = absurd (h refl)
 
-    pub same_12 : number (step b (commit old caller room)).answer ≡ 12 → step b (commit careful caller room) ≡ stay b (committed 12 none 0 0)
+    pub same_12 : number (step b (commit old caller room)).answer ≡ 12 → step b (commit careful caller room) ≡ stay b (committed 12 None 0 0)
     same_12 h = go _ _ beside h
       where
-        go : (o c : Outcome) → Beside b o c → number o.answer ≡ 12 → c ≡ stay b (committed 12 none 0 0)
-        go o c (refuses n) h = ap (λ (k : ℕ). stay b (committed k none 0 0)) h
+        go : (o c : Outcome) → Beside b o c → number o.answer ≡ 12 → c ≡ stay b (committed 12 None 0 0)
+        go o c (refuses n) h = ap (λ (k : ℕ). stay b (committed k None 0 0)) h
         go o c (accepts x e) h = absurd (omega arith)
         go o c (exceeds k e) h = refl
 

@@ -2,7 +2,7 @@
 use Prim.Native.Nat.{ℕ, ◌+◌, ◌*◌, ◌≤◌, ◌<◌}
 use mathlib.Core.Path.{◌≡◌, refl, ap}
 use mathlib.Core.Logic.{◌≢◌}
-use mathlib.Core.Option.{Option, none}
+use Rattle.std.specs.Prelude.{Option, None}
 use mathlib.Core.List.{List, []}
 use native.Mathlib.Omega.{arith}
 use lib.ListN.{length}
@@ -56,7 +56,7 @@ pub data Did (b : Book) : Call → Outcome → Type 0 where
   reads : {c : Call} (a : Answer) (x : List ℕ) → Reads c a → Did b c (stay_with b a x)
   edits : (e : Edit) (d : Edits b e) → Did b (edit e) (change b (with_records d.bank (edited_by e d.bank.records)))
   writes : (way : Way) (caller : Caller) (room : ℕ) (d : Writes b)
-      → Did b (commit way caller room) (stay_with b (committed 0 none (b.active * bank_size) d.bank.header.size) (output d.bank))
+      → Did b (commit way caller room) (stay_with b (committed 0 None (b.active * bank_size) d.bank.header.size) (output d.bank))
   moves : (way : Way) (caller : Caller) (room : ℕ) (d : Due b) → live_total d.bank ≤ d.bank.header.size
       → Did b (commit way caller room) (call.moves b d.bank (request (next_slot b) (next_bank b)))
   overflows : (caller : Caller) (room : ℕ) (d : Due b) → d.bank.header.size < live_total d.bank

@@ -3,7 +3,7 @@
 use Prim.Native.Nat.{ℕ}
 use mathlib.Core.Path.{◌≡◌, refl, sym, ap}
 use mathlib.Core.Logic.{◌≢◌}
-use mathlib.Core.Option.{none}
+use Rattle.std.specs.Prelude.{None}
 use native.Mathlib.Omega.{arith}
 use Rattle.book.specs.Book.{Book}
 use Rattle.book.specs.Call.{Call, edit, lookup, fetch, figures, commit, whole_image, number, erase, refusal, Follows, Outcome, stay, step}
@@ -19,7 +19,7 @@ refusal_again (commit way caller room) k = refl
 refusal_again (whole_image room) k = refl
 
 -- a refusal in the number alone asks for nothing
-pub refusal_asks : (c : Call) (k : ℕ) → erase (refusal c k) ≡ none
+pub refusal_asks : (c : Call) (k : ℕ) → erase (refusal c k) ≡ None
 refusal_asks (edit e) k = refl
 refusal_asks (lookup key typ) k = refl
 refusal_asks (fetch key typ) k = refl

@@ -1,6 +1,5 @@
 -- Calls as data, and what each does to the book and answers (01, 'A commit, from the entry down', 'Edits and lookups', 'Refusals'; 02, N3, N4, N7).
-use Rattle.std.specs.Prelude.{ℕ, zero, suc, ◌+◌, ◌*◌, ◌≡◌, ◌≢◌, List, [], Bool, true, false, cond, leb, ltb, length}
-use Rattle.std.proofs.Math.Option.{Option, none}
+use Rattle.std.specs.Prelude.{ℕ, zero, suc, ◌+◌, ◌*◌, ◌≡◌, ◌≢◌, List, [], Bool, true, false, cond, leb, ltb, length, Option, None}
 use Rattle.crc32.specs.Crc32.{Bytes}
 use Rattle.bank.specs.declared.variable.VarType.{VarType}
 use Rattle.bank.specs.Bank.{Bank, Slot, empty, invalid, valid, bank_size, output}
@@ -54,20 +53,20 @@ number (joined k long) = k
 
 -- the erase request that an answer makes
 abbrev pub erase : Answer → Option ℕ
-erase (edited k) = none
-erase (looked k f) = none
-erase handed = none
-erase (summed k f) = none
+erase (edited k) = None
+erase (looked k f) = None
+erase handed = None
+erase (summed k f) = None
 erase (committed k e offset long) = e
-erase (joined k long) = none
+erase (joined k long) = None
 
 -- the answer of a call that is refused by a number
 abbrev pub refusal : Call → ℕ → Answer
 refusal (edit e) k = edited k
-refusal (lookup key typ) k = looked k none
+refusal (lookup key typ) k = looked k None
 refusal (fetch key typ) k = handed
 refusal figures k = summed k no_figures
-refusal (commit way caller room) k = committed k none 0 0
+refusal (commit way caller room) k = committed k None 0 0
 refusal (whole_image room) k = joined k 0
 
 -- an answer, the bytes handed back, the book after, and the book that state and work area hold after: another one where 12 keeps the move
@@ -131,8 +130,8 @@ unfoldable pub move_in : Book → Bank → Option ℕ → Outcome
 move_in b k e = cond (leb (live_total k) k.header.size) (moves b k e) (overflows b k e)
 
 unfoldable pub commit_as : Book → Bank → Judged → Outcome
-commit_as b k (refuse n) = stay b (committed n none 0 0)
-commit_as b k in_place = stay_with b (committed 0 none (b.active * bank_size) k.header.size) (output k)
+commit_as b k (refuse n) = stay b (committed n None 0 0)
+commit_as b k in_place = stay_with b (committed 0 None (b.active * bank_size) k.header.size) (output k)
 commit_as b k move = move_in b k (request (next_slot b) (next_bank b))
 
 unfoldable pub commit_bank : Book → Way → Bank → Outcome

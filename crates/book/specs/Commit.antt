@@ -1,6 +1,5 @@
 -- A commit and the whole image on the book (01, 'A commit, from the entry down', 'Edits and lookups'; 02, N4).
-use Rattle.std.specs.Prelude.{ℕ, ◌+◌, ◌*◌, ◌%◌, List, [], ◌∷◌, ◌++◌, Bool, false, ◌||◌, cond, get_or, ltb, eqb}
-use Rattle.std.proofs.Math.Option.{Option, none, some}
+use Rattle.std.specs.Prelude.{ℕ, ◌+◌, ◌*◌, ◌%◌, List, [], ◌∷◌, ◌++◌, Bool, false, ◌||◌, cond, get_or, ltb, eqb, Option, None, Some}
 use Rattle.bank.specs.declared.header.StoreHeader.{StoreHeader}
 use Rattle.bank.specs.Record.{live}
 use Rattle.bank.specs.Bank.{Bank, Slot, empty, invalid, valid, bank_size, bank_of, output}
@@ -66,9 +65,9 @@ next_slot b = get_or b.slots (next_bank b) invalid
 
 -- the offset of bank i's erase request, which is made unless the slot is Empty
 unfoldable pub request : Slot → ℕ → Option ℕ
-request empty i = none
-request invalid i = some (i * bank_size)
-request (valid k) i = some (i * bank_size)
+request empty i = None
+request invalid i = Some (i * bank_size)
+request (valid k) i = Some (i * bank_size)
 
 -- the new bank becomes active; with two banks or more the old slot stays
 abbrev pub moved_book : Book → Bank → Book

@@ -3,24 +3,27 @@
 use Prim.Native.Nat.{ℕ}
 use mathlib.Core.Path.{◌≡◌, refl, sym, ap, ◌∙◌}
 use mathlib.Core.List.{List}
-use mathlib.Core.Bool.{Bool, true, false, cond}
+use mathlib.Core.Bool.{Bool, true, false, not, ◌&&◌, cond}
+use denote.Enum.Bare.{sameb}
+use Rattle.bank.specs.contracts.header.HeaderFault.{the_type}
 use lib.Dec.{leb}
 use lib.ListN.{length, take}
 use Rattle.buffers.specs.Bytes.{all_ff}
-use Rattle.buffers.proofs.Laws.{all_ff_is, by_test}
+use Rattle.buffers.proofs.Laws.{all_ff_is}
 use Rattle.bank.specs.declared.header.StoreHeader.{StoreHeader}
-use Rattle.bank.specs.declared.header.Head.{Head}
-use Rattle.bank.specs.declared.header.Head.TheVariants as head
+use Rattle.std.specs.Prelude.{Result, Ok, Err, Some, None}
+use Rattle.bank.specs.declared.header.HeaderFault.{HeaderFault}
+use Rattle.bank.specs.declared.header.HeaderFault.TheVariants as head
 use Rattle.bank.specs.declared.partition.Stop.{Stop}
 use Rattle.bank.specs.declared.partition.Stop.TheVariants as stop
 use Rattle.bank.specs.declared.partition.Slot.TheVariants as slot
 use Rattle.bank.specs.declared.partition.Walked.{Walked}
 use Rattle.bank.specs.Header.{signature, read_header}
-use Rattle.bank.specs.Bank.{empty, invalid, bank_size}
-use Rattle.bank.specs.Read.{walk_from, usable_at, spoils, erased_slot, read_bank}
+use Rattle.bank.specs.Bank.{bank_size}
+use Rattle.bank.specs.Read.{walk_from, usable_at, spoils, read_bank}
 use Rattle.bank.specs.Answer.{walked, answer, parsed}
 use Rattle.bank.proofs.HeaderLaws.{HeadShows, head_shows}
-use Rattle.bank.proofs.PartitionLaws.{read_size, read_version, read_signature, read_spoiled, read_kept}
+use Rattle.bank.proofs.PartitionLaws.{read_fault, read_spoiled, read_kept}
 use Rattle.cause.specs.declared.Cause.TheVariants.{Short, Empty, Signature, Version, Size}
 use Rattle.cause.specs.Cause.{stop_cause, walk_cause, head_cause, bank_cause, cause_of, is_fault, is_invalid}
 use Rattle.cause.proofs.Facts.{not_erased}
@@ -35,63 +38,65 @@ stop_fault stop.Name at n = refl
 stop_fault stop.Crc at n = refl
 
 module _ (s : List ℕ) where
-  head_cause_lem : (o : Head) → read_header s ≡ o → head_cause s o ≡ bank_cause s
+  head_cause_lem : (o : Result StoreHeader HeaderFault) → read_header s ≡ o → head_cause s o ≡ bank_cause s
   unfolding bank_cause
   head_cause_lem o e = ap (head_cause s) (sym e)
 
-  pub size_cause : read_header s ≡ head.Size → Size ≡ bank_cause s
+  pub size_cause : read_header s ≡ Err head.Size → Size ≡ bank_cause s
   unfolding head_cause
-  size_cause e = head_cause_lem head.Size e
+  size_cause e = head_cause_lem (Err head.Size) e
 
-  pub version_cause : read_header s ≡ head.Version → Version ≡ bank_cause s
+  pub version_cause : read_header s ≡ Err head.Version → Version ≡ bank_cause s
   unfolding head_cause
-  version_cause e = head_cause_lem head.Version e
+  version_cause e = head_cause_lem (Err head.Version) e
 
-  module _ (e : read_header s ≡ head.Signature) where
+  module _ (e : read_header s ≡ Err head.Signature) where
     pub empty_cause : all_ff s ≡ true → Empty ≡ bank_cause s
     unfolding head_cause
-    empty_cause a = rw a at (head_cause_lem head.Signature e)
+    empty_cause a = rw a at (head_cause_lem (Err head.Signature) e)
 
     pub signature_cause : all_ff s ≡ false → Signature ≡ bank_cause s
     unfolding head_cause
-    signature_cause a = rw a at (head_cause_lem head.Signature e)
+    signature_cause a = rw a at (head_cause_lem (Err head.Signature) e)
 
-  module _ (h : StoreHeader) (e : read_header s ≡ head.Good h) (w : Walked) (q : w ≡ walked 0 (walk_from s h.size 24)) where
+  module _ (h : StoreHeader) (e : read_header s ≡ Ok h) (w : Walked) (q : w ≡ walked 0 (walk_from s h.size 24)) where
     pub good_cause : walk_cause w ≡ bank_cause s
     unfolding head_cause
-    good_cause = ap walk_cause q ∙ head_cause_lem (head.Good h) e
+    good_cause = ap walk_cause q ∙ head_cause_lem (Ok h) e
 
-    good_fault : is_fault (bank_cause s) ≡ is_invalid (answer (read_bank s))
+    good_fault : is_fault (bank_cause s) ≡ is_invalid (Some (answer (read_bank s)))
     good_fault = ap is_fault (sym good_cause) ∙ stop_fault w.stop w.at w.count ∙ go (spoils w.stop) refl
       where
-        go : (t : Bool) → spoils w.stop ≡ t → t ≡ is_invalid (answer (read_bank s))
-        go true t = ap is_invalid (read_spoiled s h e w q t)
-        go false t = ap is_invalid (read_kept s h e w q (usable_at w.stop s h.size w.at) t refl)
+        go : (t : Bool) → spoils w.stop ≡ t → t ≡ is_invalid (Some (answer (read_bank s)))
+        go true t = ap (λ x. is_invalid (Some x)) (read_spoiled s h e w q t)
+        go false t = ap (λ x. is_invalid (Some x)) (read_kept s h e w q (usable_at w.stop s h.size w.at) t refl)
 
-  erased : is_fault (head_cause s head.Signature) ≡ is_invalid (answer (erased_slot s))
-  unfolding head_cause erased_slot answer
-  erased = go (all_ff s)
+  unsigned : (t : Bool) → is_fault (cond t Empty Signature) ≡ is_invalid (Some (cond t slot.Empty slot.Invalid))
+  unsigned true = refl
+  unsigned false = refl
+
+  signed_ff : take 4 s ≡ signature → all_ff s ≡ false
+  signed_ff e = go (all_ff s) refl
     where
-      go : (t : Bool) → is_fault (cond t Empty Signature) ≡ is_invalid (answer (cond t empty invalid))
-      go true = refl
-      go false = refl
+      go : (t : Bool) → all_ff s ≡ t → t ≡ false
+      go true a = absurd (not_erased s e (all_ff_is s a))
+      go false a = refl
 
-  spoilt : take 4 s ≡ signature → invalid ≡ erased_slot s
-  unfolding erased_slot
-  spoilt e = by_test (λ x. invalid ≡ x) (all_ff s) empty invalid (λ a. absurd (not_erased s e (all_ff_is s a))) (λ a. refl)
+  shown : (f : HeaderFault) → HeadShows s (Err f)
+      → is_fault (head_cause s (Err f)) ≡ is_invalid (Some (cond (not (sameb the_type f head.Size) && all_ff s) slot.Empty slot.Invalid))
+  unfolding head_cause
+  shown head.Signature k = unsigned (all_ff s)
+  shown head.Version k = rw (signed_ff k.0) refl
+  shown head.Size k = refl
 
-  fault : (o : Head) → read_header s ≡ o → HeadShows s o → is_fault (bank_cause s) ≡ is_invalid (answer (read_bank s))
-  unfolding head_cause answer
-  fault (head.Good h) e k = good_fault h e (walked 0 (walk_from s h.size 24)) refl
-  fault head.Size e k = ap is_fault (sym (head_cause_lem head.Size e)) ∙ ap is_invalid (read_size s e)
-  fault head.Version e k =
-      ap is_fault (sym (head_cause_lem head.Version e)) ∙ ap (λ x. is_invalid (answer x)) (spoilt k.0) ∙ ap is_invalid (read_version s e)
-  fault head.Signature e k = ap is_fault (sym (head_cause_lem head.Signature e)) ∙ erased ∙ ap is_invalid (read_signature s e)
+  fault : (o : Result StoreHeader HeaderFault) → read_header s ≡ o → HeadShows s o → is_fault (bank_cause s) ≡ is_invalid (Some (answer (read_bank s)))
+  fault (Ok h) e k = good_fault h e (walked 0 (walk_from s h.size 24)) refl
+  fault (Err f) e k = ap is_fault (sym (head_cause_lem (Err f) e)) ∙ shown f k ∙ ap (λ x. is_invalid (Some x)) (sym (read_fault s f e))
 
 pub invalid_fault : (s : List ℕ) → is_fault (cause_of s) ≡ is_invalid (parsed s)
 unfolding cause_of parsed
 invalid_fault s = both (leb bank_size (length s))
   where
-    both : (t : Bool) → is_fault (cond t (bank_cause (take bank_size s)) Short) ≡ is_invalid (cond t (answer (read_bank (take bank_size s))) slot.Short)
+    both : (t : Bool) → is_fault (cond t (bank_cause (take bank_size s)) Short) ≡ is_invalid (cond t (Some (answer (read_bank (take bank_size s)))) None)
     both true = fault (take bank_size s) (read_header (take bank_size s)) refl (head_shows (take bank_size s) (read_header (take bank_size s)) refl)
     both false = refl

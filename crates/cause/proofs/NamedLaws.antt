@@ -10,8 +10,9 @@ use lib.Seq.{take_all, length-take-le}
 use Rattle.buffers.specs.Bytes.{all_ff}
 use Rattle.buffers.proofs.Laws.{clash, all_ff_is, all_ff_replicate, by_test}
 use Rattle.bank.specs.declared.header.StoreHeader.{StoreHeader}
-use Rattle.bank.specs.declared.header.Head.{Head}
-use Rattle.bank.specs.declared.header.Head.TheVariants as head
+use Rattle.std.specs.Prelude.{Result, Ok, Err}
+use Rattle.bank.specs.declared.header.HeaderFault.{HeaderFault}
+use Rattle.bank.specs.declared.header.HeaderFault.TheVariants as head
 use Rattle.bank.specs.declared.partition.Stop.{Stop}
 use Rattle.bank.specs.declared.partition.Stop.TheVariants as stop
 use Rattle.bank.specs.Number.{u32_at}
@@ -67,14 +68,14 @@ not_ff : (s : List ℕ) → all_ff s ≡ false → s ≡ replicate (length s) 0x
 not_ff s a e = let t : all_ff s ≡ true = ap all_ff e ∙ all_ff_replicate (length s) in clash cc
 
 module _ (s : List ℕ) (l : bank_size ≤ length s) where
-  head_named : (o : Head) → HeadShows s o → Named s (head_cause s o)
+  head_named : (o : Result StoreHeader HeaderFault) → HeadShows s o → Named s (head_cause s o)
   unfolding head_cause bank_size
-  head_named head.Signature h =
+  head_named (Err head.Signature) h =
       by_test (Named s) (all_ff s) Empty Signature (λ a. named_at Empty behind_header (all_ff_is s a) (past_short s 0 24 l))
       (λ a. named_at Signature behind_header (h (omega arith)) (past_empty s 0 24 l (not_ff s a)))
-  head_named head.Version h = named_at Version behind_header h.1 (past_signature s 0 24 l h.0)
-  head_named head.Size h = named_at Size behind_header h.2 (past_version s 0 24 l h.0 h.1)
-  head_named (head.Good g) h = walk_named s l h 24 0 behind_header
+  head_named (Err head.Version) h = named_at Version behind_header h.1 (past_signature s 0 24 l h.0)
+  head_named (Err head.Size) h = named_at Size behind_header h.2 (past_version s 0 24 l h.0 h.1)
+  head_named (Ok g) h = walk_named s l h 24 0 behind_header
 
   bank_named : Named s (bank_cause s)
   unfolding bank_cause

@@ -1,8 +1,9 @@
 -- Why reading a bank stopped (request N2, 'Which byte spoils a bank'), by the reader's own `read_header` and `walk_from`.
-use Rattle.std.specs.Prelude.{ℕ, ◌+◌, List, Bool, true, false, cond}
+use Rattle.std.specs.Prelude.{ℕ, Option, Some, None, Result, Ok, Err, ◌+◌, List, Bool, true, false, cond}
 use Rattle.buffers.specs.Bytes.{all_ff}
-use Rattle.bank.specs.declared.header.Head.{Head}
-use Rattle.bank.specs.declared.header.Head.TheVariants as head
+use Rattle.bank.specs.declared.header.StoreHeader.{StoreHeader}
+use Rattle.bank.specs.declared.header.HeaderFault.{HeaderFault}
+use Rattle.bank.specs.declared.header.HeaderFault.TheVariants as fault
 use Rattle.bank.specs.declared.partition.Stop.{Stop}
 use Rattle.bank.specs.declared.partition.Stop.TheVariants as stop
 use Rattle.bank.specs.declared.partition.Slot.{Slot}
@@ -32,11 +33,11 @@ abbrev pub walk_cause : Walked → Cause
 walk_cause w = stop_cause w.stop w.at w.count
 
 -- an erased bank is empty before its signature is wrong
-unfoldable pub head_cause : List ℕ → Head → Cause
-head_cause s head.Signature = cond (all_ff s) Empty Signature
-head_cause s head.Version = Version
-head_cause s head.Size = Size
-head_cause s (head.Good h) = walk_cause (walked 0 (walk_from s h.size 24))
+unfoldable pub head_cause : List ℕ → Result StoreHeader HeaderFault → Cause
+head_cause s (Err fault.Signature) = cond (all_ff s) Empty Signature
+head_cause s (Err fault.Version) = Version
+head_cause s (Err fault.Size) = Size
+head_cause s (Ok h) = walk_cause (walked 0 (walk_from s h.size 24))
 
 unfoldable pub bank_cause : List ℕ → Cause
 bank_cause s = head_cause s (read_header s)
@@ -73,8 +74,8 @@ is_fault Length = false
 is_fault End = false
 
 -- that it is, as `banklist` says (proofs/CauseLaws.antt, `invalid_fault`)
-abbrev pub is_invalid : Slot → Bool
-is_invalid slot.Short = false
-is_invalid slot.Empty = false
-is_invalid slot.Invalid = true
-is_invalid (slot.Valid p) = false
+abbrev pub is_invalid : Option Slot → Bool
+is_invalid None = false
+is_invalid (Some slot.Empty) = false
+is_invalid (Some slot.Invalid) = true
+is_invalid (Some (slot.Valid p)) = false

@@ -1,12 +1,12 @@
 // Why reading a bank stopped: request N2.
 #![tactic(auto)]
 
-ghost use Rattle.std.specs.Prelude.{◌≡◌, ◌≤◌, length, take};
+ghost use Rattle.std.specs.Prelude.{◌≡◌, ◌≤◌, take};
 ghost use Rattle.bank.specs.Bank.{bank_size};
 ghost use Rattle.cause.specs.Cause.{walk_cause, bank_cause, cause_of, spot_of};
 ghost use Rattle.cause.specs.Named.{Named};
 
-use bank::{Head, Partition, Stop, StoreHeader, Walked};
+use bank::{HeaderFault, Partition, Stop, StoreHeader, Walked};
 
 // A byte of a bank, and the record that it belongs to, counted from 0.
 #[derive(Clone, Copy)]
@@ -37,25 +37,18 @@ impl Cause {
 
     const CRC_AT: usize = 32;
 
-    // Place and index, 0 where the cause has none.
+    // Place and index, 0 where the cause has none, as C is told.
     pub fn spot(self) -> Spot
         ensures { result ≡ spot_of self }
     {
         match self {
-            Cause::Short => Spot { place: 0, index: 0 },
-            Cause::Empty => Spot { place: 0, index: 0 },
-            Cause::Signature => Spot { place: 0, index: 0 },
+            Cause::Name(spot) | Cause::Crc(spot) => spot,
             Cause::Version => Spot {
                 place: 14,
                 index: 0,
             },
             Cause::Size => Spot { place: 4, index: 0 },
-            Cause::Name(spot) => spot,
-            Cause::Crc(spot) => spot,
-            Cause::Blank => Spot { place: 0, index: 0 },
-            Cause::Start => Spot { place: 0, index: 0 },
-            Cause::Length => Spot { place: 0, index: 0 },
-            Cause::End => Spot { place: 0, index: 0 },
+            _ => Spot { place: 0, index: 0 },
         }
     }
 }
@@ -67,8 +60,7 @@ fn of_walk(walked: Walked) -> Cause
 {
     let at = walked.at;
     let index = walked.count;
-    let stop = walked.stop;
-    match stop {
+    match walked.stop {
         Stop::Blank => Cause::Blank,
         Stop::Start => Cause::Start,
         Stop::Length => Cause::Length,
@@ -84,21 +76,15 @@ fn of_walk(walked: Walked) -> Cause
     }
 }
 
-fn of_bank(nvr: &[u8]) -> Cause
-    requires { length nvr.now ≡ 65536 }
+fn of_bank(nvr: &[u8; Partition::SIZE]) -> Cause
     ensures { result ≡ bank_cause nvr.now }
 {
     match StoreHeader::parse(nvr) {
-        Head::Good(header) => of_walk(bank::read_records(nvr, header.size as usize)),
-        Head::Size => Cause::Size,
-        Head::Version => Cause::Version,
-        Head::Signature => {
-            if buffers::all_ff(nvr) {
-                Cause::Empty
-            } else {
-                Cause::Signature
-            }
-        }
+        Ok(header) => of_walk(bank::read_records(nvr, header.size as usize)),
+        Err(HeaderFault::Size) => Cause::Size,
+        Err(HeaderFault::Version) => Cause::Version,
+        Err(HeaderFault::Signature) if buffers::all_ff(nvr) => Cause::Empty,
+        Err(HeaderFault::Signature) => Cause::Signature,
     }
 }
 
@@ -107,8 +93,8 @@ pub fn bank_cause(nvr: &[u8]) -> Cause
     ensures value { result ≡ cause_of nvr.now }
     ensures named { Named (take bank_size nvr.now) result }
 {
-    if nvr.len() < Partition::SIZE {
+    let Some(bank) = nvr.first_chunk::<{ Partition::SIZE }>() else {
         return Cause::Short;
-    }
-    of_bank(&nvr[0..Partition::SIZE])
+    };
+    of_bank(bank)
 }

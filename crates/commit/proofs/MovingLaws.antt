@@ -4,7 +4,7 @@ use mathlib.Core.Path.{◌≡◌, refl, sym, ap, ap₂, ◌∙◌}
 use mathlib.Core.List.{List, [], ◌++◌}
 use mathlib.Core.Bool.{Bool, true, false}
 use mathlib.Core.Logic.{◌⊎◌, inl, inr}
-use mathlib.Core.Option.{Option, some}
+use Rattle.std.specs.Prelude.{Option, Some}
 use native.Mathlib.Omega.{arith}
 use lib.Dec.{leb}
 use lib.ListN.{length, get_or, set, take, drop}
@@ -35,27 +35,32 @@ use Rattle.nvram.specs.Contract.{Does}
 use Rattle.nvram.proofs.SlotLaws.{slot_length}
 use Rattle.nvram.proofs.LayoutLaws.{table_at, table_set}
 use Rattle.nvram.proofs.CallLaws.{does}
-use Rattle.nvram.proofs.ActiveLaws.{Sound, book, viewed, fine, active_is, n_is, banks_are, bank, bank_is, bank_fine, total_is, total_high, place_within}
+use Rattle.nvram.proofs.ActiveLaws.{Sound, book, viewed, fine, active_is, n_is, banks_are, bank, bank_fine, total_is, total_high, place_within}
 use Rattle.nvram.proofs.ReadyLaws.{records, here}
 use Rattle.nvram.proofs.PlaceLaws.{inside, work_with, laid_with_lem, from_place, over_place, bank_out}
 use Rattle.moving.specs.Move.{Movable}
 use Rattle.requests.specs.Applied.{moved_state}
-use Rattle.commit.specs.Active.{MoveDue}
-use Rattle.commit.proofs.CommitLaws.{ActiveKnown, sound, header_is, size_is, commit_step}
+use Rattle.commit.specs.Active.{ActiveKnown, MoveDue}
+use Rattle.commit.proofs.CommitLaws.{known, from_here, header_is, size_is, commit_step}
 
--- a commit of a way moves the active bank, whose records stand from one place up to another
-pub record Moving (way : Way) (s : Nvram) (w : List ℕ) (h : StoreHeader) (from to : ℕ) : Type 0 where
-  pub known : ActiveKnown s w h
+-- a commit of a way moves the active bank
+pub record Moving (way : Way) (s : Nvram) (w : List ℕ) (h : StoreHeader) : Type 0 where
+  pub active : ActiveKnown s w h
   pub due : MoveDue way s w
-  pub from_is : from ≡ s.active * 131072 + 24
-  pub to_is : to ≡ s.active * 131072 + (active_entry s).total
 
-module _ {way : Way} {s : Nvram} {w : List ℕ} {h : StoreHeader} {from to : ℕ} (m : Moving way s w h from to) where
+module _ {way : Way} {s : Nvram} {w : List ℕ} {h : StoreHeader} (m : Moving way s w h) where
+  -- where its records stand
+  abbrev from : ℕ
+  from = s.active * 131072 + 24
+
+  abbrev to : ℕ
+  to = s.active * 131072 + (active_entry s).total
+
   abbrev g : Sound s w
-  g = sound m.known
+  g = known m.active
 
   abbrev v : (active_entry s).kind ≡ Valid
-  v = m.known.active.kind
+  v = m.active.active.kind
 
   abbrev b : Book
   b = book g
@@ -71,8 +76,8 @@ module _ {way : Way} {s : Nvram} {w : List ℕ} {h : StoreHeader} {from to : ℕ
       (record {
         sound = g;
         valid = v;
-        from_is = m.from_is ∙ ap (λ (n : ℕ). n + 24) p;
-        to_is = m.to_is ∙ ap (λ (n : ℕ). n + (active_entry s).total) p;
+        from_is = ap (λ (n : ℕ). n + 24) p;
+        to_is = ap (λ (n : ℕ). n + (active_entry s).total) p;
       })
 
   -- the bank after the active one
@@ -95,26 +100,26 @@ module _ {way : Way} {s : Nvram} {w : List ℕ} {h : StoreHeader} {from to : ℕ
   elsewhere = go (leb next s.active) refl
     where
       go : (x : Bool) → leb next s.active ≡ x → (next * 131072 + 24 ≤ from) ⊎ (to ≤ next * 131072)
-      go true e = inl (omega (arith, leb-true next s.active e, m.from_is))
-      go false e = inr (omega (arith, leb-false next s.active e, m.to_is, total_is g v, total_high g v))
+      go true e = inl (omega (arith, leb-true next s.active e))
+      go false e = inr (omega (arith, leb-false next s.active e, total_is g v, total_high g v))
 
   pub movable : Movable w from to (next * 131072)
   movable =
       record {
         records = k.records;
         holds = stand;
-        few = omega (arith, total_is g v, total_high g v, m.from_is, m.to_is);
+        few = omega (arith, total_is g v, total_high g v);
         room = place_within g next next_low;
         apart = elsewhere;
       }
 
   judged_move : judge_bank way k ≡ move
-  judged_move = m.due b k (viewed g) (bank_is g v)
+  judged_move = from_here m.active m.due
 
   pub may_raise : h.generation < 4294967295
   may_raise =
       omega
-      (arith, ap (λ (x : StoreHeader). x.generation) (header_is m.known), move_grows way k judged_move, (bank_fine g v).0.header_fine.generation_fits)
+      (arith, ap (λ (x : StoreHeader). x.generation) (header_is m.active), move_grows way k judged_move, (bank_fine g v).0.header_fine.generation_fits)
 
   new_fine : FineSlot (valid (moved k))
   unfolding total
@@ -147,7 +152,7 @@ module _ {way : Way} {s : Nvram} {w : List ℕ} {h : StoreHeader} {from to : ℕ
     work_left =
         (l.copied k.records stand).1
         ∙ ap (λ (x : StoreHeader). over (next * 131072) (part_of part_size (valid (bank_of x (select live k.records) x.size))) w)
-        (l.header_raised ∙ ap raised (header_is m.known))
+        (l.header_raised ∙ ap raised (header_is m.active))
 
     new_work : w' ≡ work_with g next next_low (valid (moved k))
     new_work = work_left ∙ over_place g next next_low (valid (moved k)) new_fine
@@ -164,52 +169,45 @@ module _ {way : Way} {s : Nvram} {w : List ℕ} {h : StoreHeader} {from to : ℕ
         (ap (λ (x : List Entry). (get_or x next (entry Empty 0 0)).kind) (banks_are g) ∙ ap (λ (x : Entry). x.kind) (table_at b.slots next (inside g next next_low)))
         ∙ ap (λ (i : ℕ). request (get_or b.slots i invalid) i) next_is
 
-    new_active : s'.active ≡ next
-    unfolding moved_state
-    new_active = ap (λ (x : Nvram). x.active) l.state
-
-    new_state : s' ≡ lay_state (moved_book b k) (counted (some caller) e s.tally)
+    new_state : s' ≡ lay_state (moved_book b k) (counted (Some caller) e s.tally)
     unfolding moved_state entry_of total
     new_state =
         let q : set s.banks next (entry Valid t h.size) ≡ lay_table (set b.slots (next_bank b) (valid (moved k))) =
-        (λ j. set (banks_are g j) next (entry Valid (total_left j) (size_is m.known j)))
+        (λ j. set (banks_are g j) next (entry Valid (total_left j) (size_is m.active j)))
         ∙ sym (table_set b.slots next (valid (moved k)) (inside g next next_low))
         ∙ ap (λ (i : ℕ). lay_table (set b.slots i (valid (moved k)))) next_is in
-        l.state ∙ (λ j. record { n = n_is g j; active = next_is j; tally = counted (some caller) e s.tally; banks = q j })
+        l.state ∙ (λ j. record { n = n_is g j; active = next_is j; tally = counted (Some caller) e s.tally; banks = q j })
 
-    pub new_in : s'.active < 16
-    new_in = omega (arith, new_active, next_in)
-
-    pub new_within : s'.active * 131072 + 131072 ≤ length w'
+    pub new_within : next * 131072 + 131072 ≤ length w'
     new_within =
         let x = slot_length (valid (moved k)) new_fine in
         let y = place_within g next next_low in
         let z : length w' ≡ length w =
         ap length work_left ∙ length_over (next * 131072) (part_of part_size (valid (moved k))) w (omega (arith, x, part_size_lem)) in
-        omega (arith, new_active)
+        omega arith
 
     module _ (room : ℕ) (wide : 65536 ≤ room) where
       move_step : step b (commit way caller room) ≡ move_in b k e
       unfolding commit_as
-      move_step = commit_step m.known way caller room wide ∙ ap (commit_as b k) judged_move ∙ ap (move_in b k) (sym request_is)
+      move_step = commit_step m.active way caller room wide ∙ ap (commit_as b k) judged_move ∙ ap (move_in b k) (sym request_is)
 
       pub does_12 : h.size < t → Does (commit way caller room) s w (committed 12 e 0 0) [] s' w'
       unfolding move_in live_total
       does_12 o =
-          let f : k.header.size < 24 + sizes (select live k.records) = omega (arith, total_left, size_is m.known) in
+          let f : k.header.size < 24 + sizes (select live k.records) = omega (arith, total_left, size_is m.active) in
           let q : move_in b k e ≡ overflows b k e = simp (lt-leb _ _ f) in
           does (commit way caller room) s w b (overflows b k e) (committed 12 e 0 0) [] s' w' (viewed g) (move_step ∙ q)
           (record { answer = refl; out = refl; state = new_state; work = new_laid })
 
-      pub does_move : t ≤ h.size → Does (commit way caller room) s w (committed 0 e (s'.active * 65536) h.size) (take h.size (drop (s'.active * 131072) w')) s' w'
+      pub does_move : t ≤ h.size → Does (commit way caller room) s w (committed 0 e (next * 65536) h.size) (take h.size (drop (next * 131072) w')) s' w'
       unfolding move_in live_total total bank_size
       does_move o =
-          let f : 24 + sizes (select live k.records) ≤ k.header.size = omega (arith, total_left, size_is m.known) in
+          let f : 24 + sizes (select live k.records) ≤ k.header.size = omega (arith, total_left, size_is m.active) in
           let q : move_in b k e ≡ moves b k e = simp (le-leb _ _ f) in
           does (commit way caller room) s w b (moves b k e) _ _ s' w' (viewed g) (move_step ∙ q)
           (record {
-            answer = ap₂ (λ (i n : ℕ). committed 0 e (i * 65536) n) (new_active ∙ next_is) (size_is m.known);
-            out = (λ j. take (size_is m.known j) (drop (new_active j * 131072) (new_work j)))
+            answer = ap₂ (λ (i n : ℕ). committed 0 e (i * 65536) n) next_is (size_is m.active);
+            out = (λ j. take (size_is m.active j) (drop (next * 131072) (new_work j)))
                 ∙ ap (take k.header.size) (from_place g next next_low (valid (moved k)))
                 ∙ bank_out (moved k) _ new_fine.0 f;
             state = new_state;

@@ -1,25 +1,25 @@
--- Turns of the loops by tables: the table forms from a place on, by one byte or run more (`byte_more`, `late_more`, `run_more`) and with none left.
-use mathlib.Core.Path.{◌≡◌, sym, ap, ◌∙◌}
-use mathlib.Core.List.{List}
-use Prim.Native.Nat.{ℕ, zero, suc, ◌+◌, ◌-◌, ◌/◌, ◌≤◌, ◌<◌}
-use native.Mathlib.Nat.{add-div_right, div-eq_of_lt}
+-- The code's folds and loops in the words of specs/Table: a byte at a time (`bytes_fold`), the last of a block (`late_more`, `late_none`), runs of
+-- `as_chunks` and the rest (`runs_fold`).
+use mathlib.Core.Path.{◌≡◌, refl, sym, ap, ap₂, ◌∙◌}
+use mathlib.Core.List.{List, [], ◌∷◌}
+use Prim.Native.Nat.{ℕ, zero, suc, ◌+◌, ◌-◌, ◌*◌, ◌/◌, ◌≤◌, ◌<◌}
+use native.Mathlib.Nat.{div-eq_of_lt}
 use native.Mathlib.Numerals.{add-one}
 use native.Mathlib.Omega.{arith}
 use lib.Bits.{bit_xor, xor_zero_r}
 use lib.ListN.{length, take, drop, get_or, drop_of_length-le, length-drop}
-use lib.Seq.{drop-cons, drop-drop, length-take-le}
+use lib.Seq.{drop-cons, drop-drop}
+use Rattle.std.specs.List.{fold}
+use Rattle.std.specs.Simd.{first_chunks}
 use Rattle.crc32.specs.Table.{table_entry, by_bytes, shares, times, in_runs}
 use Rattle.crc32.proofs.Linear.{xor_assoc}
 use Rattle.crc32.proofs.Shares.{share_nil, share_cons}
 
-pub byte_more : (t : List ℕ) (c : ℕ) (l : List ℕ) (i : ℕ) → i < length l
-    → by_bytes t (bit_xor (table_entry t 0 (bit_xor c (get_or l i 0))) (c / 256)) (drop (i + 1) l) ≡ by_bytes t c (drop i l)
+pub bytes_fold : (t : List ℕ) (c : ℕ) (l : List ℕ)
+    → fold (λ (x b : ℕ). bit_xor (table_entry t 0 (bit_xor x b)) (x / 256)) c l ≡ by_bytes t c l
 unfolding by_bytes
-byte_more t c l i h = rw (add-one, drop-cons l i 0)
-
-pub byte_none : (t : List ℕ) (c : ℕ) (l : List ℕ) (i : ℕ) → length l ≤ i → by_bytes t c (drop i l) ≡ c
-unfolding by_bytes
-byte_none t c l i h = ap (by_bytes t c) (drop_of_length-le l h)
+bytes_fold t c [] = refl
+bytes_fold t c (b ∷ l) = bytes_fold t (bit_xor (table_entry t 0 (bit_xor c b)) (c / 256)) l
 
 pub late_more : (t : List ℕ) (acc : ℕ) (l : List ℕ) (i row : ℕ) → i < length l → get_or l i 0 < 256 → row ≡ length l - 1 - i
     → bit_xor (bit_xor acc (table_entry t row (get_or l i 0))) (shares t 0 0 (drop (i + 1) l)) ≡ bit_xor acc (shares t 0 0 (drop i l))
@@ -32,21 +32,26 @@ pub late_none : (t : List ℕ) (acc : ℕ) (l : List ℕ) (i : ℕ) → length l
 late_none t acc l i h =
     ap (λ (d : List ℕ). bit_xor acc (shares t 0 0 d)) (drop_of_length-le l h) ∙ ap (bit_xor acc) (share_nil t 0 0) ∙ xor_zero_r acc
 
--- what is lent as `&l[i..i + w]`
-pub run_length : (w : ℕ) (l : List ℕ) (i : ℕ) → i + w ≤ length l → length (take (i + w - i) (drop i l)) ≡ w
-run_length w l i h =
-    let e : i + w - i ≡ w = omega arith in
-    length-take-le (i + w - i) (drop i l) (omega (arith, length-drop i l)) ∙ e
-
-pub run_more : (w : ℕ) (f g : ℕ → List ℕ → ℕ) (c : ℕ) (l : List ℕ) (i : ℕ) → zero < w → i + w ≤ length l
-    → in_runs w f g (f c (take (i + w - i) (drop i l))) (drop (i + w) l) ≡ in_runs w f g c (drop i l)
-unfolding in_runs times
-run_more w f g c l i z h =
-    let k : i + w - i ≡ w = omega arith in
-    let e : length (drop i l) ≡ length (drop (i + w) l) + w = omega (arith, length-drop i l, length-drop (i + w) l) in
-    let d : length (drop i l) / w ≡ suc (length (drop (i + w) l) / w) = rw (e, add-div_right (length (drop (i + w) l)) z, add-one) in
-    rw (k, d) (ap (times (length (drop (i + w) l) / w) w f g (f c (take w (drop i l)))) (sym (drop-drop w i l)))
-
 pub run_none : (w : ℕ) (f g : ℕ → List ℕ → ℕ) (c : ℕ) (l : List ℕ) → length l < w → in_runs w f g c l ≡ g c l
 unfolding in_runs times
 run_none w f g c l h = rw (div-eq_of_lt h)
+
+-- a fold over the runs, then the rest
+times_fold : (n w : ℕ) (f g : ℕ → List ℕ → ℕ) (c : ℕ) (l : List ℕ) → times n w f g c l ≡ g (fold f c (first_chunks w n l)) (drop (n * w) l)
+unfolding times
+times_fold zero w f g c l = let z : 0 * w ≡ 0 = omega arith in ap (λ (i : ℕ). g c (drop i l)) (sym z)
+times_fold (suc n) w f g c l =
+    let e : w + n * w ≡ suc n * w = omega arith in
+    times_fold n w f g (f c (take w l)) (drop w l)
+    ∙ ap (g (fold f (f c (take w l)) (first_chunks w n (drop w l)))) (drop-drop (n * w) w l ∙ ap (λ (i : ℕ). drop i l) e)
+
+-- what `as_chunks` parts: the runs by f and the rest by g
+pub runs_fold : (w : ℕ) (f g : ℕ → List ℕ → ℕ) (c x : ℕ) (l rest : List ℕ) (runs : List (List ℕ)) → runs ≡ first_chunks w (length l / w) l
+    → rest ≡ drop (length l / w * w) l → x ≡ fold f c runs → g x rest ≡ in_runs w f g c l
+unfolding in_runs
+runs_fold w f g c x l rest runs r s e =
+    ap₂ g (e ∙ ap (fold f c) r) s ∙ sym (times_fold (length l / w) w f g c l)
+
+pub first_run : (w n : ℕ) (l : List ℕ) → 0 < n → get_or (first_chunks w n l) 0 [] ≡ take w l
+first_run w zero l h = absurd (omega arith)
+first_run w (suc n) l h = refl

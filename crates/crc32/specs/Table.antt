@@ -1,6 +1,6 @@
 -- The same by tables of 256 entries, one after the other: row j has what 8 × (j + 1) bit steps make of each byte.
 -- The forms below are defined for any list of entries; `IsTables` says which lists make them the CRC-32.
-use Rattle.std.specs.Prelude.{◌≡◌, List, [], ◌∷◌, ◌++◌, ℕ, zero, suc, ◌+◌, ◌*◌, ◌/◌, ◌<◌, length, take, drop, get_or}
+use Rattle.std.specs.Prelude.{◌≡◌, List, [], ◌∷◌, ℕ, zero, suc, ◌+◌, ◌*◌, ◌/◌, ◌<◌, length, take, drop, get_or}
 use Rattle.std.specs.Int.Bits.{bit_xor, bit_and}
 use Rattle.crc32.specs.Crc32.{bit_steps}
 
@@ -51,7 +51,3 @@ by_blocks t c bs = in_runs 16 (block t) (by_words t) c bs
 
 unfoldable pub crc32_by : List ℕ → List ℕ → ℕ
 crc32_by t bs = bit_xor (by_blocks t 0xFFFFFFFF bs) 0xFFFFFFFF
-
--- `after` is `before` with `s` over its front
-pub record Copied (s before after : List ℕ) : Type 0 where
-  pub is : after ≡ s ++ drop (length s) before

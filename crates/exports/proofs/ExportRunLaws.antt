@@ -5,7 +5,7 @@ use Prim.Native.Nat.{ℕ, zero, suc, ◌-◌, ◌<◌}
 use mathlib.Core.Path.{◌≡◌, refl, sym, ap, ◌∙◌, subst}
 use mathlib.Core.List.{List, [], ◌∷◌, ◌++◌, map}
 use mathlib.Core.Bool.{Bool, true, false, cond, true≢false}
-use mathlib.Core.Option.{Option, some}
+use Rattle.std.specs.Prelude.{Option, Some}
 use native.Mathlib.Omega.{arith}
 use lib.ListN.{length, replicate, length-append, length-map, length-replicate}
 use lib.Dec.{leb}
@@ -77,9 +77,9 @@ tallied_fine c a t h caller =
 
 -- the bytes hold a state, and the state a book
 record StateAt (bs w : List ℕ) (s : Nvram) : Type 0 where
-  read : read_state bs ≡ some s
+  read : read_state bs ≡ Some s
   book : Book
-  viewed : view s w ≡ some book
+  viewed : view s w ≡ Some book
   fine : FineBook book
   tally : FineTally s.tally
 
@@ -105,7 +105,7 @@ module _ (bs w : List ℕ) (s : Nvram) (a : StateAt bs w s) (e : ExportEvent) (y
   abbrev c : Call
   c = e.call
 
-  after : exported c bs w ≡ on_state (some s) c bs w
+  after : exported c bs w ≡ on_state (Some s) c bs w
   unfolding exported
   after = ap (λ (o : Option Nvram). on_state o c bs w) a.read
 
@@ -123,7 +123,7 @@ module _ (bs w : List ℕ) (s : Nvram) (a : StateAt bs w s) (e : ExportEvent) (y
   unfolding event call on_book
   laid = ap (λ (o : Option Book). (on_book o c s w).state) a.viewed
 
-  state_read : read_state e.state ≡ some event.state
+  state_read : read_state e.state ≡ Some event.state
   unfolding on_state event
   state_read =
       ap read_state (d.state ∙ ap (λ (x : BytesAfter). x.state) after)
@@ -196,7 +196,7 @@ exported_run Keeps Holds carries claim image bs w bs' w' es y o r h =
     let opens : run.Opens image w x.state w' = record { bytes = y; accepted = b.0; state = refl; left = b.2 } in
     let t = starts image w x.state w' opens in
     let s : x.state ≡ lay_state (run.opened_book image) no_tally = ap (λ (z : Opened). (begun z w).state) t.opens in
-    let read : read_state bs' ≡ some x.state =
+    let read : read_state bs' ≡ Some x.state =
     ap read_state b.1 ∙ stored_back x.state bs (subst FineState (sym s) (laid_fine (run.opened_book image) no_tally t.fine none_fine)) in
     let a : StateAt bs' w' x.state =
     record { read = read; book = run.opened_book image; viewed = t.viewed; fine = t.fine; tally = subst FineTally (sym t.tally) none_fine } in

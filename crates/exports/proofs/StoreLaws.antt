@@ -1,75 +1,42 @@
 -- The contracts of the exported calls, from those of the calls: 6 where the bytes hold no state (`calls_6`), else by the state that was loaded
--- (`calls`, `keeps`, `exported_remove`); of the exported opening (`opens_6`, `opens`); and of the tallies (`no_tally_lem`, `tally_read`). To be read: a
--- call that is refused leaves every byte (`exported_refused`), so an edit and a careful commit (`edit_refused`, `careful_refused`).
+-- (`calls`, `keeps`); and of the exported opening (`opens_6`, `opens`). To be read: a call that is refused leaves every byte (`exported_refused`), so
+-- an edit and a careful commit (`edit_refused`, `careful_refused`).
 use Prim.Native.Nat.{ℕ, ◌≤◌, ◌<◌}
 use mathlib.Core.Path.{◌≡◌, refl, sym, ap, ◌∙◌, subst}
 use mathlib.Core.List.{List, [], ◌∷◌}
 use mathlib.Core.Logic.{◌≢◌}
-use mathlib.Core.Bool.{Bool, true, false, true≢false}
-use mathlib.Core.Option.{Option, none, some}
+use Rattle.std.specs.Prelude.{Option, None, Some, Result, Ok, Err}
+use Rattle.std.specs.Option.{ok_or}
 use lib.ListN.{length}
 use borrow.Author.Tests.{le-leb, lt-leb}
+use Rattle.buffers.proofs.Laws.{clash}
+use Rattle.refusal.specs.declared.Refusal.{Refusal}
+use Rattle.refusal.specs.declared.Refusal.TheVariants.{NotSound}
 use Rattle.crc32.specs.Crc32.{Bytes}
 use Rattle.tally.specs.declared.Caller.{Caller}
-use Rattle.tally.specs.Tally.{total_of}
-use Rattle.bank.specs.declared.variable.VarType.{VarType}
-use Rattle.records.specs.Checked.{is_some}
-use Rattle.book.specs.Edit.{Edit, remove}
+use Rattle.book.specs.Edit.{Edit}
 use Rattle.book.specs.Opening.{opening}
 use Rattle.book.specs.Commit.{careful}
-use Rattle.book.specs.Call.{Call, edit, commit, Answer, edited, number, refusal, Follows}
+use Rattle.book.specs.Call.{Call, edit, commit, Answer, number, refusal, Follows}
 use Rattle.book.proofs.StepLaws.{not_old}
 use Rattle.book.proofs.RefusalLaws.{refusal_again}
-use Rattle.nvram.specs.declared.state.Kind.{Kind}
-use Rattle.nvram.specs.declared.state.Kind.TheVariants.{Empty, Invalid, Valid}
 use Rattle.nvram.specs.declared.state.Nvram.{Nvram}
-use Rattle.nvram.specs.Layout.{view}
-use Rattle.nvram.specs.Ready.{active_entry}
 use Rattle.nvram.specs.Contract.{call, Does, begun}
-use Rattle.nvram.proofs.CallLaws.{does_6, empty_valid, invalid_valid}
 use Rattle.nvram.proofs.KeepLaws.{refusal_keeps}
-use Rattle.nvram.proofs.ReadyLaws.{stand}
-use Rattle.nvram.proofs.ActiveLaws.{Sound, does_7}
-use Rattle.variables.proofs.EditLaws.{removes}
-use Rattle.state_bytes.specs.declared.Loaded.{Loaded}
-use Rattle.state_bytes.specs.State.{state_size, stored, read_state, loaded}
+use Rattle.state_bytes.specs.State.{state_size, stored, read_state}
 use Rattle.state_bytes.proofs.StateLaws.{bytes_back, read_state_fine}
-use Rattle.exports.specs.Store.{BytesAfter, on_state, exported, Tells, Calls, Start, stated, start, ExportOpens, tally_number, tally_fields}
+use Rattle.exports.specs.Store.{BytesAfter, on_state, exported, Tells, Calls, Start, stated, start, ExportOpens}
 
--- a remove leaves the state as it was
+-- what is loaded, as `?` tells it
 
-stays : (key : List ℕ) (typ : VarType) (s : Nvram) (w : List ℕ) → Sound s w → (k : Kind) → (active_entry s).kind ≡ k
-    → s ≡ (call (edit (remove key typ)) s w).state
-stays key typ s w g Empty e = (does_7 g (edit (remove key typ)) tt (empty_valid _ e)).state
-stays key typ s w g Invalid e = (does_7 g (edit (remove key typ)) tt (invalid_valid _ e)).state
-stays key typ s w g Valid e = (removes (stand g e) key typ _ refl).state
+pub not_loaded : {A : Type 0} (o : Option Nvram) (r : Refusal) (x : Result A Refusal) (bs : List ℕ) → o ≡ read_state bs → ok_or o NotSound ≡ Err r → x ≡ Err r
+    → (x ≡ Err NotSound) × (read_state bs ≡ None)
+not_loaded None r x bs e h p = let q : r ≡ NotSound = cc in (p ∙ ap Err q, sym e)
+not_loaded (Some s) r x bs e h p = clash cc
 
-pub remove_stays : (key : List ℕ) (typ : VarType) (s : Nvram) (w : List ℕ) → Bytes w → length s.banks ≡ 16 → s ≡ (call (edit (remove key typ)) s w).state
-remove_stays key typ s w k l = go (is_some (view s w)) refl
-  where
-    go : (t : Bool) → is_some (view s w) ≡ t → s ≡ (call (edit (remove key typ)) s w).state
-    go true e = stays key typ s w (record { bytes = k; long = l; ok = e }) (active_entry s).kind refl
-    go false e = (does_6 (edit (remove key typ)) s w e).state
-
--- what was loaded
-
-pub loaded_none : (o : Option Nvram) (r : Loaded) → r ≡ loaded o → r.ok ≡ false → o ≡ none
-loaded_none none r e h = refl
-loaded_none (some s) r e h = let z : true ≡ false = sym (ap (λ (x : Loaded). x.ok) e) ∙ h in absurd (true≢false z)
-
-pub loaded_some : (o : Option Nvram) (r : Loaded) → r ≡ loaded o → r.ok ≡ true → o ≡ some r.state
-loaded_some none r e h = let z : true ≡ false = sym h ∙ ap (λ (x : Loaded). x.ok) e in absurd (true≢false z)
-loaded_some (some s) r e h = ap (λ (x : Loaded). some x.state) (sym e)
-
--- the tallies of what was loaded
-module _ (bs : List ℕ) where
-  pub no_tally_lem : read_state bs ≡ none → (6 ≡ tally_number (read_state bs)) × (0 ∷ 0 ∷ 0 ∷ [] ≡ tally_fields (read_state bs))
-  no_tally_lem e = (sym (ap tally_number e), sym (ap tally_fields e))
-
-  pub tally_read : (s : Nvram) (total : ℕ) → read_state bs ≡ some s → total ≡ total_of s.tally
-      → (0 ≡ tally_number (read_state bs)) × (s.tally.clock ∷ s.tally.barrel ∷ total ∷ [] ≡ tally_fields (read_state bs))
-  tally_read s total e t =
-      (sym (ap tally_number e), ap (λ (n : ℕ). s.tally.clock ∷ s.tally.barrel ∷ n ∷ []) t ∙ sym (ap tally_fields e))
+pub loaded : (o : Option Nvram) (s : Nvram) (bs : List ℕ) → o ≡ read_state bs → ok_or o NotSound ≡ Ok s → read_state bs ≡ Some s
+loaded None s bs e h = clash cc
+loaded (Some t) s bs e h = let q : t ≡ s = cc in sym e ∙ ap Some q
 
 -- a call by what it tells and leaves
 
@@ -82,29 +49,22 @@ module _ (c : Call) (bs w o : List ℕ) (r : ℕ) (q o' : List ℕ) where
       record { tells = subst Tells_of (sym e) t; state = s ∙ sym (ap (λ (z : BytesAfter). z.state) e); work = v ∙ sym (ap (λ (z : BytesAfter). z.work) e) }
 
   -- bytes that hold no state
-  pub calls_6 : read_state bs ≡ none → Tells c (refusal c 6) [] o r q o' → Calls c bs w o r q bs w o'
+  pub calls_6 : read_state bs ≡ None → Tells c (refusal c 6) [] o r q o' → Calls c bs w o r q bs w o'
   unfolding exported on_state
-  calls_6 e t = calls_as (on_state none c bs w) (ap (λ (z : Option Nvram). on_state z c bs w) e) t bs w refl refl
+  calls_6 e t = calls_as (on_state None c bs w) (ap (λ (z : Option Nvram). on_state z c bs w) e) t bs w refl refl
 
   -- bytes that hold a state
-  module _ (s : Nvram) (e : read_state bs ≡ some s) (a : Answer) (x : List ℕ) (t : Tells c a x o r q o') where
+  module _ (s : Nvram) (e : read_state bs ≡ Some s) (a : Answer) (x : List ℕ) (t : Tells c a x o r q o') where
     pub calls : (s' : Nvram) (bs' w' : List ℕ) → Does c s w a x s' w' → bs' ≡ stored s' bs → Calls c bs w o r q bs' w' o'
     unfolding exported on_state
     calls s' bs' w' d p =
-        calls_as (on_state (some s) c bs w) (ap (λ (z : Option Nvram). on_state z c bs w) e)
+        calls_as (on_state (Some s) c bs w) (ap (λ (z : Option Nvram). on_state z c bs w) e)
         (subst (λ (y : List ℕ). Tells c (call c s w).answer y o r q o') d.out (subst (λ (b : Answer). Tells c b x o r q o') d.answer t)) bs' w'
         (p ∙ ap (λ (z : Nvram). stored z bs) d.state) d.work
 
     -- a call that leaves the state as it was
     pub keeps : (w' : List ℕ) → Bytes bs → Does c s w a x s w' → Calls c bs w o r q bs w' o'
     keeps w' k d = calls s bs w' d (sym (bytes_back bs s k e))
-
-pub exported_remove : (key : List ℕ) (typ : VarType) (bs w : List ℕ) (s : Nvram) → read_state bs ≡ some s → Bytes bs → Bytes w
-    → (r : ℕ) (s' : Nvram) (w' : List ℕ) → Does (edit (remove key typ)) s w (edited r) [] s' w'
-    → Calls (edit (remove key typ)) bs w [] r [] bs w' []
-exported_remove key typ bs w s e k kw r s' w' d =
-    keeps (edit (remove key typ)) bs w [] r [] [] s e (edited r) [] (refl, refl, refl) w' k
-    (record { answer = d.answer; out = d.out; state = remove_stays key typ s w kw (read_state_fine bs s k e).banks_long; work = d.work })
 
 -- a call that is refused
 
@@ -134,12 +94,12 @@ module _ (c : Call) (bs w o : List ℕ) (r : ℕ) (q bs' w' o' : List ℕ) (d : 
   exported_refused k kw h m = go (read_state bs) refl
     where
       go : (s : Option Nvram) → read_state bs ≡ s → Untouched c bs w o r q bs' w' o'
-      go none e = untouched (on_state none c bs w) (ap (λ (z : Option Nvram). on_state z c bs w) e) (sym (refusal_again c 6)) refl refl refl
-      go (some s) e =
-          let p : exported c bs w ≡ on_state (some s) c bs w = ap (λ (z : Option Nvram). on_state z c bs w) e in
+      go None e = untouched (on_state None c bs w) (ap (λ (z : Option Nvram). on_state z c bs w) e) (sym (refusal_again c 6)) refl refl refl
+      go (Some s) e =
+          let p : exported c bs w ≡ on_state (Some s) c bs w = ap (λ (z : Option Nvram). on_state z c bs w) e in
           let n : number (exported c bs w).answer ≡ number (call c s w).answer = ap (λ (z : BytesAfter). number z.answer) p in
           let f = refusal_keeps c s w kw (read_state_fine bs s k e).banks_long (λ z. h (n ∙ z)) (λ i z. m i (n ∙ z)) in
-          untouched (on_state (some s) c bs w) p (sym f.answer) (sym f.out) (ap (λ (z : Nvram). stored z bs) (sym f.state) ∙ bytes_back bs s k e) (sym f.work)
+          untouched (on_state (Some s) c bs w) p (sym f.answer) (sym f.out) (ap (λ (z : Nvram). stored z bs) (sym f.state) ∙ bytes_back bs s k e) (sym f.work)
 
 -- of an edit, and so of the barrels' insert (02, N5)
 pub edit_refused : (e : Edit) (bs w : List ℕ) (r : ℕ) (bs' w' : List ℕ) → Bytes bs → Bytes w → Calls (edit e) bs w [] r [] bs' w' [] → r ≢ 0

@@ -1,6 +1,5 @@
 -- Demand 3 of a run through the exports, where the state travels as bytes: it is a run of run/specs/Run, and that meets run/specs/Demand.
-use Rattle.std.specs.Prelude.{ℕ, ◌≡◌, List, [], ◌∷◌}
-use Rattle.std.proofs.Math.Option.{some}
+use Rattle.std.specs.Prelude.{ℕ, ◌≡◌, List, [], ◌∷◌, Some}
 use Rattle.crc32.specs.Crc32.{Bytes}
 use Rattle.book.specs.Call.{Call, ByteCall, Follows}
 use Rattle.nvram.specs.declared.state.Nvram.{Nvram}
@@ -36,7 +35,7 @@ ExportKeeps Keeps (e ∷ es) = Keeps e.call e.returned × ExportKeeps Keeps es
 pub record Same (e : ExportEvent) (f : run.Event) : Type 0 where
   pub call : f.call ≡ e.call
   pub tells : Tells e.call f.answer f.out e.lent e.returned e.fields e.output
-  pub state : read_state e.state ≡ some f.state
+  pub state : read_state e.state ≡ Some f.state
   pub work : f.work ≡ e.work
 
 abbrev pub AllSame : List ExportEvent → List run.Event → Type 0
@@ -48,7 +47,7 @@ AllSame (e ∷ es) (f ∷ fs) = Same e f × AllSame es fs
 -- they are a run, of whose pages something holds
 pub record RunHolds (Holds : List run.Page → Type 0) (image w bs' w' : List ℕ) (es : List ExportEvent) : Type 0 where
   pub state : Nvram
-  pub read : read_state bs' ≡ some state
+  pub read : read_state bs' ≡ Some state
   pub events : List run.Event
   pub opens : run.Opens image w state w'
   pub runs : run.Run state w' events

@@ -1,6 +1,5 @@
 -- What the exported calls answer and leave: those of specs/Contract in nvram, on the state that the lent bytes hold.
-use Rattle.std.specs.Prelude.{ℕ, ◌≡◌, List, [], ◌∷◌, cond, length, take, drop, eqb, leb}
-use Rattle.std.proofs.Math.Option.{Option, none, some}
+use Rattle.std.specs.Prelude.{ℕ, ◌≡◌, List, [], ◌∷◌, cond, length, take, drop, eqb, leb, Option, None, Some}
 use Rattle.buffers.specs.Bytes.{onto}
 use Rattle.tally.specs.declared.Caller.{Caller}
 use Rattle.tally.specs.declared.Caller.TheVariants.{Clock, Barrel}
@@ -32,8 +31,8 @@ pub record BytesAfter : Type 0 where
 
 -- bytes that hold no state are refused by 6, and nothing changes
 unfoldable pub on_state : Option Nvram → Call → List ℕ → List ℕ → BytesAfter
-on_state none c bs w = record { answer = refusal c 6; out = []; state = bs; work = w }
-on_state (some s) c bs w =
+on_state None c bs w = record { answer = refusal c 6; out = []; state = bs; work = w }
+on_state (Some s) c bs w =
     record {
       answer = (call c s w).answer;
       out = (call c s w).out;
@@ -48,12 +47,12 @@ exported c bs w = on_state (read_state bs) c bs w
 -- commit 1 or 0 for an erase request, its offset, the write's offset and length; of a whole image the length
 abbrev pub fields_of : Answer → List ℕ
 fields_of (edited k) = []
-fields_of (looked k none) = 0 ∷ 0 ∷ 0 ∷ []
-fields_of (looked k (some f)) = 1 ∷ f.place ∷ f.long ∷ []
+fields_of (looked k None) = 0 ∷ 0 ∷ 0 ∷ []
+fields_of (looked k (Some f)) = 1 ∷ f.place ∷ f.long ∷ []
 fields_of handed = []
 fields_of (summed k f) = f.system ∷ f.common ∷ f.count ∷ []
-fields_of (committed k none offset long) = 0 ∷ 0 ∷ offset ∷ long ∷ []
-fields_of (committed k (some erase) offset long) = 1 ∷ erase ∷ offset ∷ long ∷ []
+fields_of (committed k None offset long) = 0 ∷ 0 ∷ offset ∷ long ∷ []
+fields_of (committed k (Some erase) offset long) = 1 ∷ erase ∷ offset ∷ long ∷ []
 fields_of (joined k long) = long ∷ []
 
 -- how many bytes stand in the output
@@ -112,10 +111,10 @@ pub record ExportOpens (image bs w : List ℕ) (r : ℕ) (bs' w' : List ℕ) : T
 -- the tallies of the state that the bytes hold (02, N7), whatever the work area is
 
 abbrev pub tally_number : Option Nvram → ℕ
-tally_number none = 6
-tally_number (some s) = 0
+tally_number None = 6
+tally_number (Some s) = 0
 
 -- the clock's, the barrel's and the total; zeros where there is no state
 abbrev pub tally_fields : Option Nvram → List ℕ
-tally_fields none = 0 ∷ 0 ∷ 0 ∷ []
-tally_fields (some s) = s.tally.clock ∷ s.tally.barrel ∷ total_of s.tally ∷ []
+tally_fields None = 0 ∷ 0 ∷ 0 ∷ []
+tally_fields (Some s) = s.tally.clock ∷ s.tally.barrel ∷ total_of s.tally ∷ []

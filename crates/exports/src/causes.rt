@@ -5,6 +5,7 @@ ghost use Rattle.exports.specs.Numbers.{cause_number, cause_fields};
 
 use cause::{Cause, bank_cause};
 
+// Two causes carry a place, so that `as` has no number for them.
 fn number(cause: Cause) -> u32
     ensures { result ≡ cause_number cause }
 {

@@ -4,35 +4,35 @@ ghost use Rattle.exports.specs.Numbers.{slot_number, slot_fields};
 
 use bank::{Partition, Slot};
 
-fn number(slot: Slot) -> u32
+// The numbers that C is told.
+fn number(slot: Option<Slot>) -> u32
     ensures { result ≡ slot_number slot }
 {
     match slot {
-        Slot::Short => 0,
-        Slot::Empty => 1,
-        Slot::Invalid => 2,
-        Slot::Valid(_) => 3,
+        None => 0,
+        Some(Slot::Empty) => 1,
+        Some(Slot::Invalid) => 2,
+        Some(Slot::Valid(_)) => 3,
     }
 }
 
-fn fields(slot: Slot) -> [u64; 8]
+fn fields(slot: Option<Slot>) -> [u64; 8]
     ensures { result ≡ slot_fields slot }
 {
-    match slot {
-        Slot::Short => [0; 8],
-        Slot::Empty => [0; 8],
-        Slot::Invalid => [0; 8],
-        Slot::Valid(p) => [
-            p.header.size as u64,
-            p.header.generation as u64,
-            p.header.state as u64,
-            p.header.flags as u64,
-            p.header.system_size as u64,
-            p.header.common_size as u64,
-            p.total_used as u64,
-            p.usable_size as u64,
-        ],
-    }
+    let Some(Slot::Valid(p)) = slot else {
+        return [0; 8];
+    };
+    let header = p.header;
+    [
+        u64::from(header.size),
+        u64::from(header.generation),
+        u64::from(header.state),
+        u64::from(header.flags),
+        u64::from(header.system_size),
+        u64::from(header.common_size),
+        p.total_used as u64,
+        p.usable_size as u64,
+    ]
 }
 
 // A bank's kind, and its fields.

@@ -1,8 +1,11 @@
-// The store's calls. The state travels as bytes, of which `state_bytes` has the layout.
-ghost use Rattle.std.specs.Prelude.{◌≡◌, [], length};
+// The store's calls. The state travels as bytes, of which `state_bytes` has the layout; bytes that hold none are refused as an unsound state is.
+ghost use Rattle.std.specs.Prelude.{◌≡◌, [], ◌∷◌, length};
+ghost use Rattle.std.specs.Result.{result_unwrap_or};
+ghost use Rattle.refusal.specs.Refusal.{number_of};
+ghost use Rattle.records.specs.Figures.{no_figures};
 ghost use Rattle.book.specs.Edit.{plain, barrel, insert, remove};
 ghost use Rattle.book.specs.Commit.{old, careful};
-ghost use Rattle.book.specs.Call.{edit, lookup, fetch, figures, commit, whole_image, number as number_of};
+ghost use Rattle.book.specs.Call.{edit, lookup, fetch, figures, commit, whole_image, summed};
 ghost use Rattle.variables.specs.LookupAnswer.{lookup_answer};
 ghost use Rattle.variables.specs.Manner.{manner_of};
 ghost use Rattle.requests.specs.Applied.{applied};
@@ -11,18 +14,20 @@ ghost use Rattle.exports.specs.Store.{var_type_of, caller_of, fields_of, Calls, 
 
 use bank::VarType;
 use commit::Way;
-use requests::{Applied, Erase};
+use records::{Figures, Found};
+use refusal::{Refusal, number_of};
+use requests::{Applied, Written};
 use state_bytes::{STATE, load, store};
 use tally::Caller;
-use variables::{Lookup, Manner, get_variable, insert_variable, remove_variable};
+use variables::{Manner, get_variable, insert_variable, remove_variable};
 
+// C's numbers, of which each stands for a type or a caller: no `From`, since the crates below know none.
 fn var_type(typ: u32) -> VarType
     ensures { result ≡ var_type_of typ }
 {
-    if typ == 0 {
-        VarType::Common
-    } else {
-        VarType::System
+    match typ {
+        0 => VarType::Common,
+        _ => VarType::System,
     }
 }
 
@@ -32,12 +37,11 @@ pub extern "C" fn feqyondil_open(image: &[u8], state: &mut [u8], work: &mut [u8]
     ensures { ExportOpens image.now state.old work.old result state.new work.new }
 {
     if state.len() < STATE {
-        return 6;
+        return Refusal::NotSound.number();
     }
     let opened = opening::parse(image, work);
-    let after = opened.state;
-    store(after, state);
-    opened.number
+    store(opened.unwrap_or(nvram::no_state()), state);
+    number_of(opened)
 }
 
 // An insert on the state that the bytes hold.
@@ -48,18 +52,13 @@ fn insert_as(
     value: &[u8],
     typ: u32,
     manner: Manner,
-) -> u32
-    ensures { Calls (edit (insert (manner_of manner) key.now value.now (var_type_of typ))) state.old work.old [] result [] state.new work.new [] }
+) -> Result<(), Refusal>
+    ensures { Calls (edit (insert (manner_of manner) key.now value.now (var_type_of typ))) state.old work.old [] (number_of result) [] state.new work.new [] }
 {
-    let loaded = load(state);
-    if !loaded.ok {
-        return 6;
-    }
-    let before = loaded.state;
-    let edited = insert_variable(before, work, key, value, var_type(typ), manner);
-    let after = edited.state;
-    store(after, state);
-    edited.number
+    let mut loaded = load(state).ok_or(Refusal::NotSound)?;
+    let edited = insert_variable(&mut loaded, work, key, value, var_type(typ), manner);
+    store(loaded, state);
+    edited
 }
 
 // Appends a value to the active bank, in place of those of its key and type.
@@ -73,7 +72,7 @@ pub extern "C" fn feqyondil_insert(
 ) -> u32
     ensures { Calls (edit (insert plain key.now value.now (var_type_of typ))) state.old work.old [] result [] state.new work.new [] }
 {
-    insert_as(state, work, key, value, typ, Manner::Plain)
+    number_of(insert_as(state, work, key, value, typ, Manner::Plain))
 }
 
 // The same, but a value over 512 bytes is refused.
@@ -87,7 +86,7 @@ pub extern "C" fn feqyondil_barrel_insert(
 ) -> u32
     ensures { Calls (edit (insert barrel key.now value.now (var_type_of typ))) state.old work.old [] result [] state.new work.new [] }
 {
-    insert_as(state, work, key, value, typ, Manner::Barrel)
+    number_of(insert_as(state, work, key, value, typ, Manner::Barrel))
 }
 
 // Deletes the values of a key and type in the active bank, which leaves the state as it was.
@@ -95,33 +94,27 @@ pub extern "C" fn feqyondil_barrel_insert(
 pub extern "C" fn feqyondil_remove(state: &[u8], work: &mut [u8], key: &[u8], typ: u32) -> u32
     ensures { Calls (edit (remove key.now (var_type_of typ))) state.now work.old [] result [] state.now work.new [] }
 {
-    let loaded = load(state);
-    if !loaded.ok {
-        return 6;
-    }
-    let before = loaded.state;
-    let edited = remove_variable(before, work, key, var_type(typ));
-    edited.number
+    let Some(loaded) = load(state) else {
+        return Refusal::NotSound.number();
+    };
+    number_of(remove_variable(loaded, work, key, var_type(typ)))
 }
 
-fn number(found: Lookup) -> u32
-    ensures { result ≡ number_of (lookup_answer found) }
-{
-    match found {
-        Lookup::At(_) => 0,
-        Lookup::Nothing => 0,
-        Lookup::Refused(number) => number,
-    }
-}
-
-fn fields(found: Lookup) -> [u64; 3]
+fn fields(found: Result<Option<Found>, Refusal>) -> [u64; 3]
     ensures { result ≡ fields_of (lookup_answer found) }
 {
     match found {
-        Lookup::At(found) => [1, found.place as u64, found.long as u64],
-        Lookup::Nothing => [0; 3],
-        Lookup::Refused(_) => [0; 3],
+        Ok(Some(Found { place, long })) => [1, place as u64, long as u64],
+        _ => [0; 3],
     }
+}
+
+// A look-up in the state that the bytes hold.
+fn lookup_in(state: &[u8], work: &[u8], key: &[u8], typ: u32) -> Result<Option<Found>, Refusal>
+    ensures { Calls (lookup key.now (var_type_of typ)) state.now work.now [] (number_of result) (fields_of (lookup_answer result)) state.now work.now [] }
+{
+    let loaded = load(state).ok_or(Refusal::NotSound)?;
+    get_variable(loaded, work, key, var_type(typ))
 }
 
 // The value's place in the work area and its length.
@@ -135,15 +128,9 @@ pub extern "C" fn feqyondil_lookup(
 ) -> u32
     ensures { Calls (lookup key.now (var_type_of typ)) state.now work.now [] result out.new state.now work.now [] }
 {
-    let loaded = load(state);
-    if !loaded.ok {
-        *out = [0; 3];
-        return 6;
-    }
-    let before = loaded.state;
-    let found = get_variable(before, work, key, var_type(typ));
+    let found = lookup_in(state, work, key, typ);
     *out = fields(found);
-    number(found)
+    number_of(found)
 }
 
 // The value's length, and the value over the front of out.
@@ -157,14 +144,20 @@ pub extern "C" fn feqyondil_value(
 ) -> usize
     ensures { Calls (fetch key.now (var_type_of typ)) state.now work.now out.old result [] state.now work.now out.new }
 {
-    let loaded = load(state);
-    if !loaded.ok {
+    let Some(loaded) = load(state) else {
         return 0;
-    }
-    let before = loaded.state;
-    let value = variables::value(before, work, key, var_type(typ));
+    };
+    let value = variables::value(loaded, work, key, var_type(typ));
     buffers::copy(value, out);
     value.len()
+}
+
+// The figures of the state that the bytes hold.
+fn figures_in(state: &[u8], work: &[u8]) -> Result<Figures, Refusal>
+    ensures { Calls figures state.now work.now [] (number_of result) (fields_of (summed (number_of result) (result_unwrap_or result no_figures))) state.now work.now [] }
+{
+    let loaded = load(state).ok_or(Refusal::NotSound)?;
+    figures::of_active(loaded, work)
 }
 
 // What the active bank's records come to: the system sum, the common sum, how many there are.
@@ -172,37 +165,34 @@ pub extern "C" fn feqyondil_value(
 pub extern "C" fn feqyondil_figures(state: &[u8], work: &[u8], out: &mut [u64; 3]) -> u32
     ensures { Calls figures state.now work.now [] result out.new state.now work.now [] }
 {
-    let loaded = load(state);
-    if !loaded.ok {
-        *out = [0; 3];
-        return 6;
-    }
-    let before = loaded.state;
-    let answer = figures::of_active(before, work);
-    let used = answer.used;
+    let figures = figures_in(state, work);
+    let used = figures.unwrap_or(Figures::none());
     *out = [used.system as u64, used.common as u64, used.count as u64];
-    answer.number
+    number_of(figures)
 }
 
 fn requests(answer: Applied) -> [u64; 4]
     ensures { result ≡ fields_of (applied answer) }
 {
-    let offset = answer.offset as u64;
-    let length = answer.length as u64;
-    let erase = answer.erase;
-    match erase {
-        Erase::Nothing => [0, 0, offset, length],
-        Erase::At(bank) => [1, bank as u64, offset, length],
-    }
+    let nothing = Written {
+        offset: 0,
+        length: 0,
+    };
+    let Written { offset, length } = answer.written.unwrap_or(nothing);
+    [
+        u64::from(answer.erase.is_some()),
+        answer.erase.unwrap_or(0) as u64,
+        offset as u64,
+        length as u64,
+    ]
 }
 
 fn caller_of(caller: u32) -> Caller
     ensures { result ≡ caller_of caller }
 {
-    if caller == 0 {
-        Caller::Clock
-    } else {
-        Caller::Barrel
+    match caller {
+        0 => Caller::Clock,
+        _ => Caller::Barrel,
     }
 }
 
@@ -217,17 +207,14 @@ fn commit_as(
 ) -> u32
     ensures { Calls (commit (way_of way) (caller_of caller) (length output.old)) state.old work.old output.old result out.new state.new work.new output.new }
 {
-    let loaded = load(state);
-    if !loaded.ok {
+    let Some(mut loaded) = load(state) else {
         *out = [0; 4];
-        return 6;
-    }
-    let before = loaded.state;
-    let answer = commit::apply(before, work, output, way, caller_of(caller));
-    let after = answer.state;
-    store(after, state);
+        return Refusal::NotSound.number();
+    };
+    let answer = commit::apply(&mut loaded, work, output, way, caller_of(caller));
+    store(loaded, state);
     *out = requests(answer);
-    answer.number
+    number_of(answer.written)
 }
 
 // Puts what is to be written into the output, and says what to erase and where to write it; the erase request counts for the caller.
@@ -258,6 +245,14 @@ pub extern "C" fn feqyondil_careful_commit(
     commit_as(state, work, output, caller, out, Way::Careful)
 }
 
+// The whole image of the state that the bytes hold.
+fn whole_image_in(state: &[u8], work: &[u8], output: &mut [u8]) -> Result<usize, Refusal>
+    ensures { Calls (whole_image (length output.old)) state.now work.now output.old (number_of result) (result_unwrap_or result 0 ∷ []) state.now work.now output.new }
+{
+    let loaded = load(state).ok_or(Refusal::NotSound)?;
+    whole_image::serialize(loaded, work, output)
+}
+
 // Joins the Valid banks in the output, and says how long they are.
 #[unsafe(no_mangle)]
 pub extern "C" fn feqyondil_whole_image(
@@ -268,13 +263,7 @@ pub extern "C" fn feqyondil_whole_image(
 ) -> u32
     ensures { Calls (whole_image (length output.old)) state.now work.now output.old result out.new state.now work.now output.new }
 {
-    let loaded = load(state);
-    if !loaded.ok {
-        *out = [0; 1];
-        return 6;
-    }
-    let before = loaded.state;
-    let answer = whole_image::serialize(before, work, output);
-    *out = [answer.length as u64];
-    answer.number
+    let length = whole_image_in(state, work, output);
+    *out = [length.unwrap_or(0) as u64];
+    number_of(length)
 }

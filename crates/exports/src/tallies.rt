@@ -3,6 +3,8 @@ ghost use Rattle.std.specs.Prelude.{◌≡◌};
 ghost use Rattle.state_bytes.specs.State.{read_state};
 ghost use Rattle.exports.specs.Store.{tally_number, tally_fields};
 
+use nvram::Nvram;
+use refusal::Refusal;
 use state_bytes::load;
 
 // The tallies of the state that the bytes hold, and their total.
@@ -10,17 +12,14 @@ use state_bytes::load;
 pub extern "C" fn feqyondil_tally(state: &[u8], out: &mut [u64; 3]) -> u32
     ensures { (result ≡ tally_number (read_state state.now)) × (out.new ≡ tally_fields (read_state state.now)) }
 {
-    let loaded = load(state);
-    if !loaded.ok {
+    let Some(Nvram { tally, .. }) = load(state) else {
         *out = [0; 3];
-        return 6;
-    }
-    let before = loaded.state;
-    let tally = before.tally;
+        return Refusal::NotSound.number();
+    };
     *out = [
-        tally.clock as u64,
-        tally.barrel as u64,
-        tally.total() as u64,
+        u64::from(tally.clock),
+        u64::from(tally.barrel),
+        u64::from(tally.total()),
     ];
     0
 }

@@ -1,14 +1,14 @@
 -- Numbers, one after another: their bytes and lengths, and the loops that decode and encode them.
 use Prim.Native.Nat.{ℕ, zero, suc, ◌+◌, ◌-◌, ◌/◌, ◌%◌, ◌≤◌, ◌<◌}
-use mathlib.Core.Path.{◌≡◌, sym, ap, ◌∙◌}
+use mathlib.Core.Path.{◌≡◌, refl, sym, ap, ◌∙◌}
 use mathlib.Core.List.{List, [], ◌∷◌, ◌++◌}
 use native.Mathlib.Numerals.{add-one}
 use native.Mathlib.Omega.{arith}
-use lib.ListN.{length, get_or, set, drop, length-append, drop_of_length-le}
-use lib.Seq.{drop-cons, drop-drop}
+use lib.ListN.{length, get_or, set, take, drop, length-append, take-append-drop, drop_of_length-le}
+use lib.Seq.{drop-cons, length-take-le}
 use Rattle.buffers.specs.Bytes.{over}
-use Rattle.buffers.proofs.OverLaws.{over_none, length_over, over_over, over_set, over_cons}
-use Rattle.leb128.specs.declared.Decoded.TheVariants.{Malformed, Number}
+use Rattle.buffers.proofs.OverLaws.{over_none, length_over, over_inside, over_over, over_set, over_cons}
+use Rattle.std.specs.Prelude.{Some, None}
 use Rattle.leb128.specs.Leb128.{encoded, encoded_all, decoded, by_number, decoded_all}
 use Rattle.leb128.proofs.Forms.{encoded_small, encoded_large, size_some}
 use Rattle.leb128.proofs.Decoding.{by_decoded}
@@ -72,20 +72,30 @@ decoded_count (suc count) s =
     (λ n k e. omega (arith, decoded_count count (drop k s)))
 
 -- the numbers left, one after another
-module _ (count i at : ℕ) (s w : List ℕ) where
-  pub decodes_more : {n k : ℕ} → i < count → count ≤ length w → decoded (drop at s) ≡ Number n k
-      → over i (decoded_all (count - i) (drop at s)) w ≡ over (i + 1) (decoded_all (count - (i + 1)) (drop (at + k) s)) (set w i n)
+module _ (count i : ℕ) (s w : List ℕ) where
+  pub decodes_more : {n k : ℕ} → i < count → count ≤ length w → decoded s ≡ Some (n, k)
+      → over i (decoded_all (count - i) s) w ≡ over (i + 1) (decoded_all (count - (i + 1)) (drop k s)) (set w i n)
   unfolding decoded_all by_number
   decodes_more {n} {k} h l e =
       let d : count - i ≡ suc (count - (i + 1)) = omega arith in
-      let f : drop k (drop at s) ≡ drop (at + k) s = drop-drop k at s in
-      let m = decoded_count (count - (i + 1)) (drop (at + k) s) in
-      rw (d, e, f) (over_cons i n (decoded_all (count - (i + 1)) (drop (at + k) s)) w (omega arith))
+      let m = decoded_count (count - (i + 1)) (drop k s) in
+      rw (d, e) (over_cons i n (decoded_all (count - (i + 1)) (drop k s)) w (omega arith))
 
-  pub decodes_stop : i < count → decoded (drop at s) ≡ Malformed → over i (decoded_all (count - i) (drop at s)) w ≡ w
+  pub decodes_stop : i < count → decoded s ≡ None → over i (decoded_all (count - i) s) w ≡ w
   unfolding decoded_all by_number
   decodes_stop h e = let d : count - i ≡ suc (count - (i + 1)) = omega arith in rw (d, e) (over_none i w)
 
-  pub decodes_none : count ≤ i → over i (decoded_all (count - i) (drop at s)) w ≡ w
+  pub decodes_none : count ≤ i → over i (decoded_all (count - i) s) w ≡ w
   unfolding decoded_all
   decodes_none h = let d : count - i ≡ 0 = omega arith in rw d (over_none i w)
+
+-- decoded into n numbers in front
+pub decodes_front : (n : ℕ) (s w : List ℕ) {u : List ℕ} → n ≤ length w → u ≡ over 0 (decoded_all (length (take n w)) s) (take n w)
+    → u ++ drop n w ≡ over 0 (decoded_all n s) w
+decodes_front n s w l e =
+    let x = decoded_all n s in
+    let k : length (take n w) ≡ n = length-take-le n w l in
+    let m = decoded_count n s in
+    ap (λ (y : List ℕ). y ++ drop n w) (rw k at e)
+    ∙ sym (over_inside [] (take n w) (drop n w) 0 0 x refl (omega arith))
+    ∙ ap (over 0 x) (take-append-drop n w)

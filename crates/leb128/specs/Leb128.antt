@@ -1,7 +1,5 @@
 -- Numbers in groups of seven bits, lowest first, with the top bit set on all but the last group (02, N6): unsigned LEB128.
-use Rattle.std.specs.Prelude.{ℕ, zero, suc, ◌+◌, ◌-◌, ◌*◌, ◌/◌, ◌%◌, List, [], ◌∷◌, ◌++◌, cond, eqb, ltb, drop}
-use Rattle.leb128.specs.declared.Decoded.{Decoded}
-use Rattle.leb128.specs.declared.Decoded.TheVariants.{Malformed, Number}
+use Rattle.std.specs.Prelude.{ℕ, zero, suc, ◌+◌, ◌-◌, ◌*◌, ◌/◌, ◌%◌, List, [], ◌∷◌, ◌++◌, Option, Some, None, cond, eqb, ltb, drop}
 
 -- with so many divisions at most
 unfoldable pub encoded_by : ℕ → ℕ → List ℕ
@@ -18,28 +16,28 @@ encoded_all [] = []
 encoded_all (n ∷ ns) = encoded n ++ encoded_all ns
 
 -- the group g in front of a number: where that is 0, the form is not the shortest
-unfoldable pub grouped : ℕ → Decoded → Decoded
-grouped g Malformed = Malformed
-grouped g (Number n k) = cond (eqb n 0) Malformed (Number (g + 128 * n) (k + 1))
+unfoldable pub grouped : ℕ → Option (ℕ × ℕ) → Option (ℕ × ℕ)
+grouped g None = None
+grouped g (Some (n, k)) = cond (eqb n 0) None (Some (g + 128 * n, k + 1))
 
 -- the number in front of s, of any size, and how many bytes it takes: none where it is cut off
-unfoldable pub decoded_groups : List ℕ → Decoded
-decoded_groups [] = Malformed
-decoded_groups (b ∷ s) = cond (ltb b 128) (Number b 1) (grouped (b - 128) (decoded_groups s))
+unfoldable pub decoded_groups : List ℕ → Option (ℕ × ℕ)
+decoded_groups [] = None
+decoded_groups (b ∷ s) = cond (ltb b 128) (Some (b, 1)) (grouped (b - 128) (decoded_groups s))
 
 -- and none where it is 2^32 and more: there is one just where s begins with the shortest form of a number below 2^32
 -- (proofs/Decoding.antt: `decoded_leads`, `leads_decoded`)
-unfoldable pub below32 : Decoded → Decoded
-below32 Malformed = Malformed
-below32 (Number n k) = cond (ltb n 4294967296) (Number n k) Malformed
+unfoldable pub below32 : Option (ℕ × ℕ) → Option (ℕ × ℕ)
+below32 None = None
+below32 (Some (n, k)) = cond (ltb n 4294967296) (Some (n, k)) None
 
-unfoldable pub decoded : List ℕ → Decoded
+unfoldable pub decoded : List ℕ → Option (ℕ × ℕ)
 decoded s = below32 (decoded_groups s)
 
 -- what comes of no number, or of a number and its size
-unfoldable pub by_number : {A : Type 0} → Decoded → A → (ℕ → ℕ → A) → A
-by_number Malformed none some = none
-by_number (Number n k) none some = some n k
+unfoldable pub by_number : {A : Type 0} → Option (ℕ × ℕ) → A → (ℕ → ℕ → A) → A
+by_number None none some = none
+by_number (Some (n, k)) none some = some n k
 
 -- so many numbers in front of s, as far as there are
 unfoldable pub decoded_all : ℕ → List ℕ → List ℕ

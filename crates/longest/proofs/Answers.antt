@@ -2,47 +2,46 @@
 use Prim.Native.Nat.{ℕ, ◌+◌, ◌-◌, ◌*◌, ◌/◌, ◌≤◌, ◌<◌}
 use mathlib.Core.Path.{◌≡◌, refl, sym, ap, ◌∙◌}
 use mathlib.Core.List.{List}
-use mathlib.Core.Bool.{true, false, ◌||◌}
+use mathlib.Core.Bool.{Bool, true, false, ◌||◌}
 use native.Mathlib.Omega.{arith}
 use lib.Dec.{ltb}
 use lib.ListN.{length, drop}
 use borrow.Author.Tests.{lt-ltb, le-ltb, ltb-false}
+use Rattle.std.specs.Prelude.{Ok, Err}
 use Rattle.buffers.specs.Bytes.{AllBelow, over}
 use Rattle.buffers.proofs.Laws.{neither}
 use Rattle.leb128.specs.Leb128.{encoded, decoded_all}
-use Rattle.run_log.specs.declared.answer.Counted.{Counted}
-use Rattle.run_log.specs.Result.{Result, refused_by, gives, answer_of, Answered}
+use Rattle.refusal.specs.declared.Refusal.{Refusal}
+use Rattle.refusal.specs.declared.Refusal.TheVariants.{LogWindow}
+use Rattle.run_log.specs.Output.{answer_of, Answered}
 use Rattle.run_log.specs.RunLog.{read_log}
-use Rattle.run_log.proofs.Results.{answer_refused, refused_by_lem, refused_answered, gives_answered}
+use Rattle.run_log.proofs.Results.{fit_refused, fit_short, fit_room, refused_answer, refused_answered, gives_answered}
 use Rattle.run_log.proofs.Reading.{Accepted, accepted_values}
-use Rattle.longest.specs.Longest.{lengths, windows, slide_entries, slide_log, fit_windows, sliding}
+use Rattle.longest.specs.Longest.{lengths, windows, slide_entries, slide_log, sliding}
 use Rattle.longest.proofs.Windows.{length_windows}
 use Rattle.longest.proofs.Entries.{length_lengths}
 
--- a window that the test of the code lets pass
-pub in_range_lem : (window : ℕ) → (ltb window 1 || ltb 64 window) ≡ false → (1 ≤ window) × (window ≤ 64)
+-- what the definition asks of a window
+in_range_lem : (window : ℕ) → (ltb window 1 || ltb 64 window) ≡ false → (1 ≤ window) × (window ≤ 64)
 in_range_lem window e = let t = neither _ _ e in (ltb-false _ _ t.0, ltb-false _ _ t.1)
 
--- room
-fit_refused : (room : ℕ) {r : Result} {k : ℕ} → r ≡ refused_by k → fit_windows room r ≡ refused_by k
-unfolding fit_windows
-fit_refused room e = rw e refl
+-- a window that the tests of the code let pass, and one that they do not
+pub inside : (window : ℕ) → 1 ≤ window → window ≤ 64 → (ltb window 1 || ltb 64 window) ≡ false
+inside window a b = simp (le-ltb window 1 a, le-ltb 64 window b)
 
-module _ (room : ℕ) {r : Result} {xs : List ℕ} (e : r ≡ gives xs) where
-  fit_short : room < length xs → fit_windows room r ≡ refused_by 20
-  unfolding fit_windows
-  fit_short h = rw e (simp (lt-ltb _ _ h))
-
-  fit_room : length xs ≤ room → fit_windows room r ≡ gives xs
-  unfolding fit_windows
-  fit_room h = rw e (simp (le-ltb _ _ h))
+pub outside : (window : ℕ) → (1 ≤ window → window ≤ 64 → ⊥) → (ltb window 1 || ltb 64 window) ≡ true
+outside window n = go (ltb window 1 || ltb 64 window) refl
+  where
+    go : (t : Bool) → (ltb window 1 || ltb 64 window) ≡ t → t ≡ true
+    go true e = refl
+    go false e = let r = in_range_lem window e in absurd (n r.0 r.1)
 
 module _ (window : ℕ) (s out : List ℕ) where
-  refused_with : {k : ℕ} → slide_log window s ≡ refused_by k → Answered 2 (sliding window s (length out)) out (record { number = k; count = 0 }) out
+  refused_with : {k : Refusal} → slide_log window s ≡ Err k → Answered 2 (sliding window s (length out)) out (Err k) out
   unfolding sliding
-  refused_with e = refused_answered 2 out (fit_refused (length out) e)
+  refused_with e = refused_answered 2 out (fit_refused LogWindow (length out) e)
 
-  pub slide_window : (ltb window 1 || ltb 64 window) ≡ true → Answered 2 (sliding window s (length out)) out (record { number = 20; count = 0 }) out
+  pub slide_window : (ltb window 1 || ltb 64 window) ≡ true → Answered 2 (sliding window s (length out)) out (Err LogWindow) out
   unfolding slide_log
   slide_window e = refused_with (rw e refl)
 
@@ -52,23 +51,21 @@ module _ (window : ℕ) (s out : List ℕ) where
     of_log = rw w refl
 
     -- the reader refuses
-    pub slide_refused : {a : Counted} → a ≡ answer_of 3 (read_log s) → (a.number ≡ 0 → ⊥) → Answered 2 (sliding window s (length out)) out a out
+    pub slide_refused : {k : Refusal} → Err k ≡ answer_of 3 (read_log s) → Answered 2 (sliding window s (length out)) out (Err k) out
     unfolding slide_entries
-    slide_refused e h =
-        let f = refused_by_lem 3 (read_log s) e h in
-        rw (e ∙ answer_refused 3 f.1) (refused_with (of_log ∙ ap (slide_entries window) f.1))
+    slide_refused e = refused_with (of_log ∙ ap (slide_entries window) (refused_answer 3 (read_log s) e))
 
-    module _ {a : Counted} (read : a ≡ answer_of 3 (read_log s)) (c : Accepted s a) where
-      counts : length (lengths c.ns) ≡ a.count
-      counts = omega (arith, length_lengths c.ns, c.count)
+    module _ {count : ℕ} (c : Accepted s count) where
+      counts : length (lengths c.ns) ≡ count
+      counts = omega (arith, length_lengths c.ns, c.numbers)
 
-      pub slide_many : 1024 < a.count → Answered 2 (sliding window s (length out)) out (record { number = 20; count = 0 }) out
+      pub slide_many : 1024 < count → Answered 2 (sliding window s (length out)) out (Err LogWindow) out
       unfolding slide_entries
       slide_many h = let l : 1024 < length (lengths c.ns) = omega (arith, counts) in
           refused_with (of_log ∙ ap (slide_entries window) c.is ∙ simp (lt-ltb _ _ l))
 
-      module _ (m : a.count ≤ 1024) {n : ℕ} (q : n ≡ a.count + 1 - window) where
-        given_windows : slide_log window s ≡ gives (windows window 0 (lengths c.ns))
+      module _ (m : count ≤ 1024) {n : ℕ} (q : n ≡ count + 1 - window) where
+        given_windows : slide_log window s ≡ Ok (windows window 0 (lengths c.ns))
         unfolding slide_entries
         given_windows = let l : length (lengths c.ns) ≤ 1024 = omega (arith, counts) in
             of_log ∙ ap (slide_entries window) c.is ∙ simp (le-ltb _ _ l)
@@ -76,20 +73,20 @@ module _ (window : ℕ) (s out : List ℕ) where
         size : length (windows window 0 (lengths c.ns)) ≡ 2 * n
         size = length_windows window 0 (lengths c.ns) (in_range_lem window w).0 ∙ ap (◌*◌ 2) (ap (λ (k : ℕ). k + 1 - window) counts ∙ sym q)
 
-        pub slide_no_room : length out < 2 * n → Answered 2 (sliding window s (length out)) out (record { number = 20; count = 0 }) out
+        pub slide_no_room : length out < 2 * n → Answered 2 (sliding window s (length out)) out (Err LogWindow) out
         unfolding sliding
-        slide_no_room h = refused_answered 2 out (fit_short (length out) given_windows (omega (arith, size)))
+        slide_no_room h = refused_answered 2 out (fit_short LogWindow (length out) given_windows (omega (arith, size)))
 
-        module _ {from : ℕ} (b : AllBelow 256 s) (f : from ≡ length (encoded a.count)) (l : 2 * n ≤ length out) where
-          values : windows window 0 (lengths (decoded_all (3 * a.count) (drop from s))) ≡ windows window 0 (lengths c.ns)
-          values = ap (λ (x : List ℕ). windows window 0 (lengths x)) (accepted_values s out a read c b f)
+        module _ {from : ℕ} (b : AllBelow 256 s) (f : from ≡ length (encoded count)) (l : 2 * n ≤ length out) where
+          values : windows window 0 (lengths (decoded_all (3 * count) (drop from s))) ≡ windows window 0 (lengths c.ns)
+          values = ap (λ (x : List ℕ). windows window 0 (lengths x)) (accepted_values s out c b f)
 
-          pub slide_room : length (windows window 0 (lengths (decoded_all (3 * a.count) (drop from s)))) ≤ length out
+          pub slide_room : length (windows window 0 (lengths (decoded_all (3 * count) (drop from s)))) ≤ length out
           slide_room = omega (arith, ap length values, size)
 
-          pub slide_given : {u : List ℕ} → u ≡ over 0 (windows window 0 (lengths (decoded_all (3 * a.count) (drop from s)))) out
-              → Answered 2 (sliding window s (length out)) out (record { number = 0; count = n }) u
+          pub slide_given : {u : List ℕ} → u ≡ over 0 (windows window 0 (lengths (decoded_all (3 * count) (drop from s)))) out
+              → Answered 2 (sliding window s (length out)) out (Ok n) u
           unfolding sliding answer_of
           slide_given e =
               let d : n ≡ length (windows window 0 (lengths c.ns)) / 2 = omega (arith, size) in
-              gives_answered 2 (fit_room (length out) given_windows (omega (arith, size))) (rw d refl) (e ∙ ap (λ (x : List ℕ). over 0 x out) values)
+              gives_answered 2 (fit_room LogWindow (length out) given_windows (omega (arith, size))) (rw (← d) refl) (e ∙ ap (λ (x : List ℕ). over 0 x out) values)

@@ -9,11 +9,9 @@ use lib.Dec.{ltb}
 use lib.ListN.{length}
 use borrow.Author.Tests.{lt-ltb, le-ltb, ltb-true, ltb-false, eq-eqb, ne_eqb}
 use Rattle.buffers.proofs.Laws.{by_test}
+use Rattle.longest.specs.declared.ring.Candidate.{Candidate}
 use Rattle.longest.specs.Longest.{largest, index_of}
-
-pub record Candidate : Type 0 where
-  pub seconds : ℕ
-  pub index : ℕ
+use Rattle.longest.specs.Ring.{behind, trimmed}
 
 -- each entry that no later one is longer than, the oldest first
 unfoldable pub candidates : ℕ → List ℕ → List Candidate
@@ -132,26 +130,22 @@ candidates_fall first (x ∷ xs) =
     by_test (Falling (max x (largest xs))) (ltb x (largest xs)) _ _ (λ t. falling_below (largest xs) (max x (largest xs)) c (omega arith) h)
     (λ t. let l : largest xs ≤ x = ltb-false _ _ t in (omega arith, falling_below (largest xs) x c l h))
 
--- the newest goes, if it is shorter
-falling_last : (m : ℕ) (c : List Candidate) (d : Candidate) → Falling m (c ++ (d ∷ [])) → d.seconds ≤ m
-unfolding Falling
-falling_last m [] d h = h.0
-falling_last m (e ∷ c) d h = let l = falling_last e.seconds c d h.1 in omega (arith, h.0)
-
-pub falling_front : (m : ℕ) (c : List Candidate) (d : Candidate) → Falling m (c ++ (d ∷ [])) → Falling m c
-unfolding Falling
-falling_front m [] d h = tt
-falling_front m (e ∷ c) d h = (h.0, falling_front e.seconds c d h.1)
-
-pub kept_shorter : (x : ℕ) (c : List Candidate) (d : Candidate) → d.seconds < x → kept x (c ++ (d ∷ [])) ≡ kept x c
-unfolding kept
-kept_shorter x [] d h = simp (lt-ltb d.seconds x h)
-kept_shorter x (e ∷ c) d h = rw (kept_shorter x c d h) refl
-
--- and else none does
-pub kept_all : (x m : ℕ) (c : List Candidate) (d : Candidate) → Falling m (c ++ (d ∷ [])) → x ≤ d.seconds → kept x (c ++ (d ∷ [])) ≡ c ++ (d ∷ [])
+-- the shorter ones are then the newest
+kept_none : (x m : ℕ) (c : List Candidate) → Falling m c → m < x → kept x c ≡ []
 unfolding kept Falling
-kept_all x m [] d h l = simp (le-ltb d.seconds x l)
-kept_all x m (e ∷ c) d h l =
-    let k = falling_last e.seconds c d h.1 in
-    simp (le-ltb e.seconds x (omega arith)) (ap (λ (r : List Candidate). e ∷ r) (kept_all x e.seconds c d h.1 l))
+kept_none x m [] h l = refl
+kept_none x m (d ∷ c) h l = let k : d.seconds < x = omega (arith, h.0) in simp (lt-ltb d.seconds x k) (kept_none x d.seconds c h.1 k)
+
+behind_kept : (x : ℕ) (d : Candidate) (c : List Candidate) → x ≤ d.seconds → behind x d c ≡ d ∷ c
+unfolding behind
+behind_kept x d [] l = simp (le-ltb d.seconds x l)
+behind_kept x d (e ∷ c) l = refl
+
+pub trimmed_kept : (x m : ℕ) (c : List Candidate) → Falling m c → trimmed x c ≡ kept x c
+unfolding trimmed kept Falling behind
+trimmed_kept x m [] h = refl
+trimmed_kept x m (d ∷ c) h = go (ltb d.seconds x) refl (trimmed_kept x d.seconds c h.1)
+  where
+    go : (t : Bool) → ltb d.seconds x ≡ t → trimmed x c ≡ kept x c → behind x d (trimmed x c) ≡ cond t (kept x c) (d ∷ kept x c)
+    go true t e = let k = kept_none x d.seconds c h.1 (ltb-true _ _ t) in rw (e, k) (simp t)
+    go false t e = behind_kept x d (trimmed x c) (ltb-false _ _ t) ∙ ap (λ (k : List Candidate). d ∷ k) e

@@ -1,6 +1,8 @@
 -- The longest run of each full window of a log (02, N9).
-use Rattle.std.specs.Prelude.{ℕ, ◌+◌, max, List, [], ◌∷◌, ◌++◌, ◌||◌, cond, eqb, ltb, length, take}
-use Rattle.run_log.specs.Result.{Result, refused_by, gives}
+use Rattle.std.specs.Prelude.{ℕ, ◌+◌, max, List, [], ◌∷◌, ◌++◌, Result, Ok, Err, ◌||◌, cond, eqb, ltb, length, take}
+use Rattle.refusal.specs.declared.Refusal.{Refusal}
+use Rattle.refusal.specs.declared.Refusal.TheVariants.{LogWindow}
+use Rattle.run_log.specs.Output.{fit}
 use Rattle.run_log.specs.RunLog.{read_log}
 
 -- the lengths in seconds of entries, which are numbers, three in a row
@@ -28,20 +30,15 @@ unfoldable pub windows : ℕ → ℕ → List ℕ → List ℕ
 windows window first [] = []
 windows window first (x ∷ xs) = cond (ltb (length (x ∷ xs)) window) [] (longest first (take window (x ∷ xs)) ++ windows window (first + 1) xs)
 
--- the windows of a log that was read: 20 over 1,024 entries
-unfoldable pub slide_entries : ℕ → Result → Result
-slide_entries window (refused_by k) = refused_by k
-slide_entries window (gives ns) = cond (ltb 1024 (length (lengths ns))) (refused_by 20) (gives (windows window 0 (lengths ns)))
+-- the windows of a log that was read: `LogWindow` over 1,024 entries
+unfoldable pub slide_entries : ℕ → Result (List ℕ) Refusal → Result (List ℕ) Refusal
+slide_entries window (Err r) = Err r
+slide_entries window (Ok ns) = cond (ltb 1024 (length (lengths ns))) (Err LogWindow) (Ok (windows window 0 (lengths ns)))
 
--- 20 for a window outside 1 to 64, then what the reader judges but its output
-unfoldable pub slide_log : ℕ → List ℕ → Result
-slide_log window s = cond (ltb window 1 || ltb 64 window) (refused_by 20) (slide_entries window (read_log s))
-
--- 20 where there is less room than it takes
-unfoldable pub fit_windows : ℕ → Result → Result
-fit_windows room (refused_by k) = refused_by k
-fit_windows room (gives xs) = cond (ltb room (length xs)) (refused_by 20) (gives xs)
+-- `LogWindow` for a window outside 1 to 64, then what the reader judges but its output
+unfoldable pub slide_log : ℕ → List ℕ → Result (List ℕ) Refusal
+slide_log window s = cond (ltb window 1 || ltb 64 window) (Err LogWindow) (slide_entries window (read_log s))
 
 -- and then the output
-unfoldable pub sliding : ℕ → List ℕ → ℕ → Result
-sliding window s room = fit_windows room (slide_log window s)
+unfoldable pub sliding : ℕ → List ℕ → ℕ → Result (List ℕ) Refusal
+sliding window s room = fit LogWindow room (slide_log window s)

@@ -4,57 +4,36 @@
 mod ring;
 mod slide;
 
-ghost use Rattle.std.specs.Prelude.{◌≡◌, ◌+◌, ◌-◌, ◌≤◌, length};
-ghost use Rattle.run_log.specs.Result.{Answered};
+ghost use Rattle.std.specs.Prelude.{length};
+ghost use Rattle.run_log.specs.Output.{Answered};
 ghost use Rattle.longest.specs.Longest.{sliding};
 
 use leb128::encoded_len;
-use run_log::{Counted, refused, validate};
+use refusal::Refusal;
+use ring::ROOM;
+use run_log::validate;
 use slide::slide;
 
-// Entries of a window, and of a log, at most.
-const WINDOW_MOST: u32 = 64;
-
+// Entries of a log at most.
 const ENTRIES_MOST: usize = 1024;
 
-// How many windows are full.
-fn full_windows(count: usize, window: usize) -> usize
-    requires { (1 ≤ window) × (count ≤ 1024) }
-    ensures { result ≡ count + 1 - window }
-{
-    if count < window {
-        return 0;
-    }
-    count + 1 - window
-}
-
-// Two numbers for each full window: its largest length, and the index of its first entry that has it.
-pub fn longest_runs(log: &[u8], window: u32, out: &mut [u32]) -> Counted
+// Two numbers for each full window: its largest length, and the index of its first entry that has it; and how many windows there are.
+pub fn longest_runs(log: &[u8], window: u32, out: &mut [u32]) -> Result<usize, Refusal>
     ensures { Answered 2 (sliding window log.now (length out.old)) out.old result out.new }
 {
-    if (window < 1) | (WINDOW_MOST < window) {
-        return refused(20);
+    let window = window as usize;
+    if window < 1 || ROOM < window {
+        return Err(Refusal::LogWindow);
     }
-    let valid = validate(log);
-    if valid.number != 0 {
-        return valid;
+    let count = validate(log)?;
+    if ENTRIES_MOST < count {
+        return Err(Refusal::LogWindow);
     }
-    if ENTRIES_MOST < valid.count {
-        return refused(20);
-    }
-    let windows = full_windows(valid.count, window as usize);
+    let windows = (count + 1).saturating_sub(window);
     if out.len() < 2 * windows {
-        return refused(20);
+        return Err(Refusal::LogWindow);
     }
-    slide(
-        log,
-        encoded_len(valid.count as u32),
-        valid.count,
-        window as usize,
-        out,
-    );
-    Counted {
-        number: 0,
-        count: windows,
-    }
+    let from = encoded_len(count as u32);
+    slide(&log[from..], count, window, out);
+    Ok(windows)
 }

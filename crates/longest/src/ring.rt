@@ -1,42 +1,87 @@
-// The candidates of a window: its entries that no later one of it is longer than. They stand in a ring of 64, in two arrays, one of their lengths in
-// seconds and one of their indices: the oldest at `head` modulo 64, the newest before `tail`. The oldest is the longest.
-ghost use Rattle.std.specs.Prelude.{◌≡◌, [], ◌∷◌, cond, ◌+◌, ◌-◌, ◌*◌, ◌≤◌, eqb, length};
-ghost use Rattle.buffers.specs.Bytes.{over};
-ghost use Rattle.longest.specs.Ring.{not_shorter};
+// The candidates of a window: its entries that no later one of it is longer than, the oldest first, which is the longest.
+ghost use Rattle.std.specs.Prelude.{◌≡◌, List, [], ◌∷◌, ◌++◌, ◌<◌, ◌≤◌, length, take};
+ghost use Rattle.longest.specs.declared.ring.Candidate.{Candidate};
+ghost use Rattle.longest.specs.Ring.{held, trimmed, without};
 
-// The place behind the newest one that is not shorter than `x`.
-pub fn behind_longer(seconds: &[u32; 64], head: usize, tail: usize, x: u32) -> usize
-    requires { head ≤ tail }
-    ensures { result ≡ head + not_shorter seconds.now x head (tail - head) }
+use std::marker::Model;
+
+// As many as a window has entries at most.
+pub const ROOM: usize = 64;
+
+#[derive(Clone, Copy)]
+pub struct Candidate {
+    pub seconds: u32,
+    pub index: u32,
+}
+
+#[derive(Drop)]
+pub struct Ring {
+    places: [Candidate; ROOM],
+    head: usize,
+    len: usize,
+}
+
+// Clauses see the candidates.
+impl Model for Ring {
+    ghost Value = { List Candidate };
+
+    ghost view = { λ r. held r.places r.head r.len };
+
+    ghost invariant = { λ r. (r.head < 64) × (r.len ≤ 64) };
+}
+
+// How many are left without the newest that are shorter.
+fn not_shorter(places: &[Candidate; ROOM], head: usize, len: usize, seconds: u32) -> usize
+    requires { (head < 64) × (len ≤ 64) }
+    ensures { (held places.now head result ≡ trimmed seconds (held places.now head len)) × (result ≤ len) }
 {
-    let mut t = tail;
-    while head < t {
-        let p = t - 1;
-        if x <= seconds[p % 64] {
-            return t;
+    for i in (0..len).rev() {
+        if seconds <= places[(head + i) % ROOM].seconds {
+            return i + 1;
         }
-        t = p;
     }
-    t
+    0
 }
 
-// The place of the oldest when the window has gone on from the entry `first`.
-pub fn head_behind(head: usize, index: u32, first: usize) -> usize
-    requires { head ≤ 1024 }
-    ensures { result ≡ head + cond (eqb index first) 1 0 }
-{
-    if index as usize == first {
-        return head + 1;
+impl Ring {
+    pub fn new() -> Ring
+        ensures { result ≡ [] }
+    {
+        let none = Candidate {
+            seconds: 0,
+            index: 0,
+        };
+        Ring {
+            places: [none; ROOM],
+            head: 0,
+            len: 0,
+        }
     }
-    head
-}
 
-// Puts two numbers for the window that begins with the entry `first`.
-pub fn put_window(out: &mut [u32], first: usize, seconds: u32, index: u32)
-    requires { 2 * first + 2 ≤ length out.old }
-    ensures { out.new ≡ over (2 * first) (seconds ∷ index ∷ []) out.old }
-{
-    let p = 2 * first;
-    out[p] = seconds;
-    out[p + 1] = index;
+    // Puts one in the place of the newest that are shorter.
+    pub fn push(&mut self, candidate: Candidate)
+        requires { length self.old < 64 }
+        ensures { self.new ≡ trimmed candidate.seconds self.old ++ (candidate ∷ []) }
+    {
+        let len = not_shorter(&self.places, self.head, self.len, candidate.seconds);
+        self.places[(self.head + len) % ROOM] = candidate;
+        self.len = len + 1;
+    }
+
+    pub fn oldest(&self) -> Candidate
+        requires { 0 < length self.now }
+        ensures { take 1 self.now ≡ result ∷ [] }
+    {
+        self.places[self.head]
+    }
+
+    // The oldest goes, if it has this index.
+    pub fn leave(&mut self, index: usize)
+        ensures { self.new ≡ without index self.old }
+    {
+        if 0 < self.len && self.places[self.head].index as usize == index {
+            self.head = (self.head + 1) % ROOM;
+            self.len -= 1;
+        }
+    }
 }

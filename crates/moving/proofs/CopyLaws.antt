@@ -78,6 +78,3 @@ copy_self at to n w e h =
     ∙ ap (λ (z : List ℕ). take at w ++ (take n (drop at w) ++ z)) (sym (drop-drop n at w))
     ∙ ap (λ (z : List ℕ). take at w ++ z) (take-append-drop n (drop at w))
     ∙ take-append-drop at w)
-
-pub length_copy : (at to n : ℕ) (w v : List ℕ) → v ≡ over to (take n (drop at w)) w → at + n ≤ length w → to + n ≤ length w → length v ≡ length w
-length_copy at to n w v e f t = ap length e ∙ length_over to (take n (drop at w)) w (omega (arith, span_long at n w f))

@@ -6,8 +6,8 @@ use mathlib.Core.List.{List, ◌++◌, append_assoc}
 use native.Mathlib.Omega.{arith}
 use lib.ListN.{length, take, drop, replicate, length-append, length-replicate}
 use lib.Seq.{drop-drop}
-use Rattle.buffers.specs.Bytes.{onto, over}
-use Rattle.buffers.proofs.OverLaws.{over_over, over_copy, length_over}
+use Rattle.buffers.specs.Bytes.{over}
+use Rattle.buffers.proofs.OverLaws.{over_over, length_over}
 use Rattle.bank.specs.declared.header.StoreHeader.{StoreHeader}
 use Rattle.bank.specs.Header.{header_bytes}
 use Rattle.bank.specs.Record.{Record, live, sizes, records_bytes}
@@ -55,9 +55,10 @@ module _ {w : List ℕ} {from end part : ℕ} (m : Movable w from end part) (h :
   fits = omega (arith, m.room, length_header h)
 
   -- the header copied to the part
-  pub headed : (x y : List ℕ) → x ≡ header_bytes h → y ≡ onto x (take (length w - part) (drop part w))
-      → take part w ++ (y ++ drop (length w - part) (drop part w)) ≡ over part (header_bytes h) w
-  headed x y e g = over_copy part x w y (omega (arith, fits, ap length e)) g ∙ ap (λ (l : List ℕ). over part l w) e
+  pub headed : (x y : List ℕ) → x ≡ header_bytes h → y ≡ x → take part w ++ (y ++ drop (part + 24 - part) (drop part w)) ≡ over part (header_bytes h) w
+  headed x y e g =
+      let q : y ≡ header_bytes h = g ∙ e in
+      over_part part (part + 24) w y (omega (arith, ap length q, length_header h)) ∙ ap (λ (l : List ℕ). over part l w) q
 
   module _ (v : List ℕ) (e : v ≡ over part (header_bytes h) w) where
     same : length v ≡ length w

@@ -12,16 +12,16 @@ ghost use Rattle.moving.specs.Move.{ReadFirst, live_bytes, Movable};
 
 use bank::{StoreHeader, VarHeader, Variable};
 use nvram::Nvram;
+use std::ops::Range;
 
-// n bytes from one place of w to another, the lowest first.
-fn copy_within(w: &mut [u8], from: usize, to: usize, n: usize)
+// n bytes from one place of w to another, the lowest first. std's copy_within calls memmove, as copy_from_slice of parts does, and the library
+// calls memcpy and memset alone.
+fn copy(w: &mut [u8], from: usize, to: usize, n: usize)
     requires { (from + n ≤ length w.old) × (to + n ≤ length w.old) × ReadFirst to from (from + n) }
     ensures { w.new ≡ over to (take n (drop from w.old)) w.old }
 {
-    let mut i: usize = 0;
-    while i < n {
+    for i in 0..n {
         w[to + i] = w[from + i];
-        i += 1;
     }
 }
 
@@ -35,19 +35,19 @@ fn copy_live(w: &mut [u8], at: usize, to: usize, n: usize) -> usize
     }
     // A record that stays where it is; a copy onto itself is slow.
     if at != to {
-        copy_within(w, at, to, n);
+        copy(w, at, to, n);
     }
     to + n
 }
 
-// The live records from one place up to another, to a third on; the place after them.
-fn copy_all_live(w: &mut [u8], from: usize, end: usize, to: usize) -> usize
-    requires { ((rs : List Record) × Holds w.old from end rs) × (to + (end - from) ≤ length w.old) × ReadFirst to from end }
-    ensures { (rs : List Record) → Holds w.old from end rs → (result ≡ to + sizes (select live rs)) × (w.new ≡ over to (records_bytes (select live rs)) w.old) }
+// The live records of a range, to a place on; the place after them. By hand: the copies change the bytes that it walks by.
+fn copy_all_live(w: &mut [u8], records: Range<usize>, to: usize) -> usize
+    requires { ((rs : List Record) × Holds w.old records.start records.end rs) × (to + (records.end - records.start) ≤ length w.old) × ReadFirst to records.start records.end }
+    ensures { (rs : List Record) → Holds w.old records.start records.end rs → (result ≡ to + sizes (select live rs)) × (w.new ≡ over to (records_bytes (select live rs)) w.old) }
 {
-    let mut at = from;
+    let mut at = records.start;
     let mut p = to;
-    while at < end {
+    while at < records.end {
         let header = VarHeader::parse(&w[at..]);
         let n = Variable::size(header.name_size, header.data_size);
         p = copy_live(w, at, p, n);
@@ -56,21 +56,14 @@ fn copy_all_live(w: &mut [u8], from: usize, end: usize, to: usize) -> usize
     p
 }
 
-// The live records from one place up to another, under a header, as the bank of the part at a third; its total.
-pub fn move_bank(
-    work: &mut [u8],
-    from: usize,
-    end: usize,
-    part: usize,
-    header: StoreHeader,
-) -> usize
-    requires { Movable work.old from end part }
-    ensures { (rs : List Record) → Holds work.old from end rs → (result ≡ 24 + sizes (select live rs)) × (work.new ≡ over part (part_of part_size (valid (bank_of header (select live rs) header.size))) work.old) }
+// The live records of a range, under a header, as the bank of the part at a place; its total.
+pub fn move_bank(work: &mut [u8], records: Range<usize>, part: usize, header: StoreHeader) -> usize
+    requires { Movable work.old records.start records.end part }
+    ensures { (rs : List Record) → Holds work.old records.start records.end rs → (result ≡ 24 + sizes (select live rs)) × (work.new ≡ over part (part_of part_size (valid (bank_of header (select live rs) header.size))) work.old) }
 {
-    let bytes = header.serialize();
-    buffers::copy(&bytes, &mut work[part..]);
-    let p = copy_all_live(work, from, end, part + Variable::STORE_HEADER_SIZE);
-    let e = part + Nvram::PART_SIZE;
-    buffers::fill_ff(&mut work[p..e]);
+    let to = part + Variable::STORE_HEADER_SIZE;
+    work[part..to].copy_from_slice(&header.serialize());
+    let p = copy_all_live(work, records, to);
+    work[p..part + Nvram::PART_SIZE].fill(0xFF);
     p - part
 }

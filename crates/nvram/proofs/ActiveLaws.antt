@@ -3,7 +3,7 @@ use Prim.Native.Nat.{ℕ, ◌+◌, ◌*◌, ◌-◌, ◌≤◌, ◌<◌}
 use mathlib.Core.Path.{◌≡◌, refl, sym, ap, ap₂, ◌∙◌, subst}
 use mathlib.Core.List.{List, [], ◌++◌, append_assoc}
 use mathlib.Core.Bool.{true}
-use mathlib.Core.Option.{some}
+use Rattle.std.specs.Prelude.{Some, is_some}
 use native.Mathlib.Omega.{arith}
 use lib.ListN.{length, get_or, set, take, drop, replicate, length-append}
 use lib.Seq.{take_at, drop_at, set-get_or}
@@ -16,7 +16,6 @@ use Rattle.bank.specs.Totals.{total}
 use Rattle.bank.specs.WellFormed.{FineBank, FineRecords}
 use Rattle.bank.proofs.PaddedLaws.{part_bytes}
 use Rattle.bank.proofs.LengthLaws.{length_header, length_records}
-use Rattle.records.specs.Checked.{is_some}
 use Rattle.records.specs.Records.{Holds}
 use Rattle.book.specs.Book.{part_size, FineSlot, Book, FineBook, active_slot}
 use Rattle.book.specs.Call.{Call, refusal, stay, step}
@@ -41,7 +40,7 @@ module _ {s : Nvram} {w : List ℕ} (g : Sound s w) where
   pub book : Book
   book = (some_of (view s w) g.ok).0
 
-  pub viewed : view s w ≡ some book
+  pub viewed : view s w ≡ Some book
   unfolding book
   viewed = (some_of (view s w) g.ok).1
 

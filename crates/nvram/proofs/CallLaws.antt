@@ -3,13 +3,12 @@ use Prim.Native.Nat.{ℕ}
 use mathlib.Core.Path.{◌≡◌, refl, sym, ap, ◌∙◌}
 use mathlib.Core.List.{List, []}
 use mathlib.Core.Bool.{true, false}
-use mathlib.Core.Option.{Option, none, some}
+use Rattle.std.specs.Prelude.{Option, None, Some, is_some}
 use Rattle.buffers.proofs.Laws.{clash}
 use Rattle.bank.specs.Bank.{Bank, Slot, empty, invalid, valid}
 use Rattle.tally.specs.declared.Tally.{Tally}
 use Rattle.tally.specs.Tally.{counted}
 use Rattle.tally.proofs.TallyLaws.{counted_none}
-use Rattle.records.specs.Checked.{is_some}
 use Rattle.book.specs.Book.{Book, active_slot}
 use Rattle.book.specs.Call.{Call, edit, lookup, fetch, figures, commit, whole_image, Answer, refusal, Outcome, stay, by_slot, step}
 use Rattle.book.specs.Tallied.{committer, tallied}
@@ -21,19 +20,19 @@ use Rattle.nvram.specs.Part.{entry_of}
 use Rattle.nvram.specs.Layout.{lay_state, lay_work, view}
 use Rattle.nvram.specs.Contract.{on_book, call, Does}
 
-pub some_of : {A : Type 0} (o : Option A) → is_some o ≡ true → (x : A) × (o ≡ some x)
-some_of none e = clash cc
-some_of (some x) e = (x, refl)
+pub some_of : {A : Type 0} (o : Option A) → is_some o ≡ true → (x : A) × (o ≡ Some x)
+some_of None e = clash cc
+some_of (Some x) e = (x, refl)
 
-none_of : {A : Type 0} (o : Option A) → is_some o ≡ false → o ≡ none
-none_of none e = refl
-none_of (some x) e = clash cc
+none_of : {A : Type 0} (o : Option A) → is_some o ≡ false → o ≡ None
+none_of None e = refl
+none_of (Some x) e = clash cc
 
 -- refused by 6: state and work area are not sound
 pub does_6 : (c : Call) (s : Nvram) (w : List ℕ) → is_some (view s w) ≡ false → Does c s w (refusal c 6) [] s w
 unfolding call on_book
 does_6 c s w e =
-    let q : view s w ≡ none = none_of (view s w) e in
+    let q : view s w ≡ None = none_of (view s w) e in
     record {
       answer = sym (ap (λ (o : Option Book). (on_book o c s w).answer) q);
       out = sym (ap (λ (o : Option Book). (on_book o c s w).out) q);
@@ -53,7 +52,7 @@ pub record Leaves (c : Call) (o : Outcome) (s : Nvram) (w : List ℕ) (a : Answe
   pub work : w' ≡ lay_work o.laid w
 
 pub does : (c : Call) (s : Nvram) (w : List ℕ) (b : Book) (o : Outcome) (a : Answer) (x : List ℕ) (s' : Nvram) (w' : List ℕ)
-    → view s w ≡ some b → step b c ≡ o → Leaves c o s w a x s' w' → Does c s w a x s' w'
+    → view s w ≡ Some b → step b c ≡ o → Leaves c o s w a x s' w' → Does c s w a x s' w'
 unfolding call on_book
 does c s w b o a x s' w' v q l =
     record {

@@ -6,7 +6,7 @@ use Prim.Native.Nat.{ℕ}
 use mathlib.Core.Path.{◌≡◌, refl, sym, ap, ◌∙◌, subst}
 use mathlib.Core.List.{List, []}
 use mathlib.Core.Logic.{◌≢◌}
-use mathlib.Core.Option.{Option, none, some}
+use Rattle.std.specs.Prelude.{Option, None, Some, is_some}
 use mathlib.Core.Bool.{Bool, true, false}
 use lib.ListN.{length}
 use Rattle.crc32.specs.Crc32.{Bytes}
@@ -14,7 +14,6 @@ use Rattle.tally.specs.declared.Caller.{Caller}
 use Rattle.tally.specs.declared.Tally.{Tally}
 use Rattle.tally.specs.Tally.{tally_of, is_own}
 use Rattle.tally.proofs.TallyLaws.{other_counted}
-use Rattle.records.specs.Checked.{is_some}
 use Rattle.book.specs.Book.{Book, FineBook}
 use Rattle.book.specs.Commit.{careful}
 use Rattle.book.specs.Call.{Call, commit, ByteCall, Answer, committed, number, erase, step, refusal, stay, Follows}
@@ -32,10 +31,10 @@ use Rattle.nvram.proofs.ActiveLaws.{Sound, book, viewed, does_refuse}
 pub record Kept (c : Call) (b : Book) (a : Answer) (x : List ℕ) (s' : Nvram) (w' : List ℕ) : Type 0 where
   pub answer : a ≡ (step b c).answer
   pub out : x ≡ (step b c).out
-  pub viewed : view s' w' ≡ some (step b c).laid
+  pub viewed : view s' w' ≡ Some (step b c).laid
 
 pub keeps : (c : Call) (s : Nvram) (w : List ℕ) (b : Book) (a : Answer) (x : List ℕ) (s' : Nvram) (w' : List ℕ) → ByteCall c → FineBook b
-    → view s w ≡ some b
+    → view s w ≡ Some b
     → Does c s w a x s' w'
     → Kept c b a x s' w'
 unfolding call on_book
@@ -70,7 +69,7 @@ refusal_keeps c s w y l h m = go (is_some (view s w)) refl
 
 -- of a careful commit
 pub careful_keeps : (caller : Caller) (room : ℕ) (s : Nvram) (w : List ℕ) → Bytes w → length s.banks ≡ 16 → number (call (commit careful caller room) s w).answer ≢ 0
-    → Does (commit careful caller room) s w (committed (number (call (commit careful caller room) s w).answer) none 0 0) [] s w
+    → Does (commit careful caller room) s w (committed (number (call (commit careful caller room) s w).answer) None 0 0) [] s w
 careful_keeps caller room s w y l h = refusal_keeps (commit careful caller room) s w y l h (not_old (commit careful caller room) _ refl)
 
 -- the tallies after any call are those before, and its erase request counted for its caller
@@ -80,8 +79,8 @@ does_tally c s w a x s' w' d =
     ap (λ (z : Nvram). z.tally) d.state ∙ go (view s w) ∙ ap (λ (z : Answer). tallied c z s.tally) (sym d.answer)
   where
     go : (o : Option Book) → (on_book o c s w).state.tally ≡ tallied c (on_book o c s w).answer s.tally
-    go none = sym (refusal_tally c 6 s.tally)
-    go (some b) = refl
+    go None = sym (refusal_tally c 6 s.tally)
+    go (Some b) = refl
 
 -- so no call changes the tally of a caller whose commit it isn't
 pub other_keeps : (caller : Caller) (c : Call) (s : Nvram) (w : List ℕ) (a : Answer) (x : List ℕ) (s' : Nvram) (w' : List ℕ) → Does c s w a x s' w'

@@ -3,7 +3,7 @@ use Prim.Native.Nat.{ℕ, zero, suc, ◌+◌, ◌*◌, ◌-◌, ◌≤◌, ◌<�
 use mathlib.Core.Path.{◌≡◌, refl, sym, ap, ap₂, ◌∙◌, subst}
 use mathlib.Core.List.{List, [], ◌∷◌, ◌++◌, map, append_assoc}
 use mathlib.Core.Bool.{Bool, true, cond}
-use mathlib.Core.Option.{Option, none, some}
+use Rattle.std.specs.Prelude.{Option, None, Some}
 use native.Mathlib.Omega.{arith}
 use native.Mathlib.Nat.{sub-zero, suc-sub-suc, suc-mul, zero-mul}
 use lib.ListN.{length, get_or, set, take, drop, replicate, length-append, length-drop, length-set, take-append-drop}
@@ -86,7 +86,6 @@ table_set ss i x h = rw (length-set ss i x) (entries_set ss (replicate (16 - len
 -- free entries
 
 all_free_lem : (n : ℕ) → all_free (replicate n (entry Empty 0 0)) ≡ true
-unfolding all_free
 all_free_lem zero = refl
 all_free_lem (suc n) = all_free_lem n
 
@@ -105,7 +104,6 @@ free_entry e h =
     λ i. record { kind = k i; total = t i; usable = u i }
 
 free_back : (es : List Entry) → all_free es ≡ true → es ≡ replicate (length es) (entry Empty 0 0)
-unfolding all_free
 free_back [] h = refl
 free_back (e ∷ es) h =
     let a = and_both _ _ h in
@@ -114,9 +112,9 @@ free_back (e ∷ es) h =
 -- slots, laid out and taken back
 
 slots_view : (ss : List Slot) (m : ℕ) (t : List ℕ) → FineSlots ss
-    → view_slots (length ss) (map entry_of ss ++ replicate m (entry Empty 0 0)) (lay_parts ss ++ t) ≡ some ss
+    → view_slots (length ss) (map entry_of ss ++ replicate m (entry Empty 0 0)) (lay_parts ss ++ t) ≡ Some ss
 unfolding view_slots lay_parts prepend_slot
-slots_view [] m t f = ap (λ (b : Bool). cond b (some []) none) (all_free_lem m)
+slots_view [] m t f = ap (λ (b : Bool). cond b (Some []) None) (all_free_lem m)
 slots_view (s ∷ ss) m t f =
     let l = slot_length s f.0 in
     let es : List Entry = map entry_of ss ++ replicate m (entry Empty 0 0) in
@@ -127,24 +125,24 @@ slots_view (s ∷ ss) m t f =
     ap₂ prepend_slot (ap (view_slot (entry_of s)) a ∙ slot_view s f.0) (ap (view_slots (length ss) es) d ∙ slots_view ss m t f.1)
 
 -- a book that is laid out is viewed again
-pub view_lay : (b : Book) (tally : Tally) (w : List ℕ) → FineBook b → view (lay_state b tally) (lay_work b w) ≡ some b
-unfolding view in_range lay_table lay_work book_with
+pub view_lay : (b : Book) (tally : Tally) (w : List ℕ) → FineBook b → view (lay_state b tally) (lay_work b w) ≡ Some b
+unfolding view lay_table lay_work book_with
 view_lay b tally w f =
     let ss = b.slots in
     let m : b.n * part_size ≤ length (lay_parts ss ++ drop (b.n * part_size) w) = work_long b f w in
-    let v : view_slots b.n (map entry_of ss ++ replicate (16 - length ss) (entry Empty 0 0)) (lay_parts ss ++ drop (b.n * part_size) w) ≡ some ss =
+    let v : view_slots b.n (map entry_of ss ++ replicate (16 - length ss) (entry Empty 0 0)) (lay_parts ss ++ drop (b.n * part_size) w) ≡ Some ss =
     ap (λ (j : ℕ). view_slots j (map entry_of ss ++ replicate (16 - length ss) (entry Empty 0 0)) (lay_parts ss ++ drop (b.n * part_size) w)) (sym f.long)
     ∙ slots_view ss (16 - length ss) (drop (b.n * part_size) w) f.slots_fine in
     rw (le-leb _ _ f.low, le-leb _ _ f.high, lt-ltb _ _ f.inside, le-leb _ _ m, v)
 
 -- slots, taken back and laid out
 
-prepend_some : (a : Option Slot) (o : Option (List Slot)) (ss : List Slot) → prepend_slot a o ≡ some ss
-    → (s : Slot) × (qs : List Slot) × (a ≡ some s) × (o ≡ some qs) × (s ∷ qs ≡ ss)
+prepend_some : (a : Option Slot) (o : Option (List Slot)) (ss : List Slot) → prepend_slot a o ≡ Some ss
+    → (s : Slot) × (qs : List Slot) × (a ≡ Some s) × (o ≡ Some qs) × (s ∷ qs ≡ ss)
 unfolding prepend_slot
-prepend_some none o ss e = clash cc
-prepend_some (some s) none ss e = clash cc
-prepend_some (some s) (some qs) ss e = (s, qs, refl, refl, cc)
+prepend_some None o ss e = clash cc
+prepend_some (Some s) None ss e = clash cc
+prepend_some (Some s) (Some qs) ss e = (s, qs, refl, refl, cc)
 
 record LaidSlots (n : ℕ) (es : List Entry) (w : List ℕ) (ss : List Slot) : Type 0 where
   pub table : es ≡ map entry_of ss ++ replicate (length es - n) (entry Empty 0 0)
@@ -176,14 +174,13 @@ laid_more n e es w s ss a r =
       fine = (a.2, r.fine);
     }
 
-record Range (s : Nvram) (w : List ℕ) : Type 0 where
+pub record Range (s : Nvram) (w : List ℕ) : Type 0 where
   pub low : 1 ≤ s.n
   pub high : s.n ≤ 16
   pub inside : s.active < s.n
   pub room : s.n * part_size ≤ length w
 
-range_back : (s : Nvram) (w : List ℕ) → in_range s w ≡ true → Range s w
-unfolding in_range
+pub range_back : (s : Nvram) (w : List ℕ) → in_range s w ≡ true → Range s w
 range_back s w e =
     let a = and_both _ _ e in
     let b = and_both _ _ a.1 in
@@ -195,17 +192,17 @@ range_back s w e =
       room = leb-true _ _ c.1;
     }
 
-book_some : (s : Nvram) (o : Option (List Slot)) (b : Book) → book_with s o ≡ some b
-    → (ss : List Slot) × (o ≡ some ss) × (record { n = s.n; active = s.active; slots = ss } ≡ b)
+book_some : (s : Nvram) (o : Option (List Slot)) (b : Book) → book_with s o ≡ Some b
+    → (ss : List Slot) × (o ≡ Some ss) × (record { n = s.n; active = s.active; slots = ss } ≡ b)
 unfolding book_with
-book_some s none b e = clash cc
-book_some s (some ss) b e = (ss, refl, cc)
+book_some s None b e = clash cc
+book_some s (Some ss) b e = (ss, refl, cc)
 
 slots_back : (n : ℕ) (es : List Entry) (w : List ℕ) (ss : List Slot) → Bytes w → n * part_size ≤ length w
-    → view_slots n es w ≡ some ss → LaidSlots n es w ss
+    → view_slots n es w ≡ Some ss → LaidSlots n es w ss
 unfolding view_slots
 slots_back zero es w ss y l v =
-    let o = held (all_free es) (some []) ss v in
+    let o = held (all_free es) (Some []) ss v in
     let q : [] ≡ ss = cc o.1 in
     subst (LaidSlots 0 es w) q (laid_none es w o.0)
 slots_back (suc n) [] w ss y l v = clash cc
@@ -217,7 +214,7 @@ slots_back (suc n) (e ∷ es) w ss y l v =
     subst (LaidSlots (suc n) (e ∷ es) w) o.4 (laid_more n e es w o.0 o.1 a r)
 
 -- what is viewed was laid out so
-pub lay_view : (s : Nvram) (w : List ℕ) (b : Book) → Bytes w → length s.banks ≡ 16 → view s w ≡ some b
+pub lay_view : (s : Nvram) (w : List ℕ) (b : Book) → Bytes w → length s.banks ≡ 16 → view s w ≡ Some b
     → (s ≡ lay_state b s.tally) × (w ≡ lay_work b w) × FineBook b
 unfolding view lay_table lay_work
 lay_view s w b y n v =

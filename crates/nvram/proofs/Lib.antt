@@ -1,3 +1,4 @@
+pub mod KindLaws
 pub mod SlotLaws
 pub mod LayoutLaws
 pub mod SoundLaws
@@ -6,4 +7,5 @@ pub mod CallLaws
 pub mod ActiveLaws
 pub mod PlaceLaws
 pub mod ReadyLaws
+pub mod CheckLaws
 pub mod KeepLaws

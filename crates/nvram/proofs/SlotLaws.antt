@@ -3,7 +3,7 @@ use Prim.Native.Nat.{ℕ, ◌+◌, ◌-◌, ◌≤◌}
 use mathlib.Core.Path.{◌≡◌, refl, sym, ap, ap₂, ◌∙◌, subst}
 use mathlib.Core.List.{List, ◌++◌, append_assoc}
 use mathlib.Core.Bool.{Bool, true, false, cond}
-use mathlib.Core.Option.{Option, none, some}
+use Rattle.std.specs.Prelude.{Option, None, Some, Result, Ok, Err}
 use native.Mathlib.Omega.{arith}
 use lib.ListN.{length, get_or, set, take, drop, replicate, length-drop, take-append-drop}
 use lib.Seq.{take_at, drop_at, drop-drop, length-take-le, set-get_or}
@@ -13,8 +13,7 @@ use Rattle.buffers.proofs.BelowLaws.{below_take, below_drop}
 use Rattle.buffers.specs.Bytes.{all_ff}
 use Rattle.buffers.proofs.Laws.{clash, all_ff_is, all_ff_replicate, and_both}
 use Rattle.bank.specs.declared.header.StoreHeader.{StoreHeader}
-use Rattle.bank.specs.declared.header.Head.{Head}
-use Rattle.bank.specs.declared.header.Head.TheVariants.{Good, Signature, Version, Size}
+use Rattle.bank.specs.declared.header.HeaderFault.{HeaderFault}
 use Rattle.bank.specs.Number.{le32}
 use Rattle.bank.specs.Header.{header_bytes, read_header}
 use Rattle.bank.specs.Record.{Record, sizes, records_bytes}
@@ -55,7 +54,7 @@ pub record Fits (h : StoreHeader) (e : Entry) (p : List ℕ) : Type 0 where
 -- laid out and taken back
 
 pub fits_view : (h : StoreHeader) (e : Entry) (p : List ℕ) → Fits h e p
-    → view_head (Good h) e p ≡ slot_with h e.usable (view_records (take (e.total - 24) (drop 24 p)))
+    → view_head (Ok h) e p ≡ slot_with h e.usable (view_records (take (e.total - 24) (drop 24 p)))
 unfolding view_head
 fits_view h e p f =
     simp (
@@ -99,12 +98,12 @@ pub total_least : (b : Bank) → 24 ≤ total b
 unfolding total
 total_least b = omega arith
 
-bank_view : (b : Bank) → FineBank b → total b ≤ part_size → view_slot (entry_of (valid b)) (part_of part_size (valid b)) ≡ some (valid b)
+bank_view : (b : Bank) → FineBank b → total b ≤ part_size → view_slot (entry_of (valid b)) (part_of part_size (valid b)) ≡ Some (valid b)
 unfolding view_slot view_kind entry_of slot_with
 bank_view b f t =
     let p = part_of part_size (valid b) in
     let r = f.records_fine in
-    let q : read_header p ≡ Good b.header =
+    let q : read_header p ≡ Ok b.header =
     ap read_header (part_is b r) ∙ header_back b.header (records_bytes b.records ++ free b r) f.header_fine in
     let v : Fits b.header (entry_of (valid b)) p =
     record {
@@ -115,11 +114,11 @@ bank_view b f t =
       usable_high = f.usable_high;
       rest = ap all_ff (part_rest b r) ∙ all_ff_replicate (part_size - (24 + sizes b.records));
     } in
-    ap (λ (o : Head). view_head o (entry_of (valid b)) p) q ∙ fits_view b.header (entry_of (valid b)) p v
+    ap (λ (o : Result StoreHeader HeaderFault). view_head o (entry_of (valid b)) p) q ∙ fits_view b.header (entry_of (valid b)) p v
     ∙ ap (slot_with b.header b.usable) (ap view_records (part_records b r) ∙ view_records_lem b.records r)
 
-pub slot_view : (k : Slot) → FineSlot k → view_slot (entry_of k) (part_of part_size k) ≡ some k
-unfolding view_slot view_kind entry_of part_of is_blank
+pub slot_view : (k : Slot) → FineSlot k → view_slot (entry_of k) (part_of part_size k) ≡ Some k
+unfolding view_slot view_kind entry_of part_of
 slot_view empty f = simp (all_ff_replicate part_size)
 slot_view invalid f = simp (all_ff_replicate part_size)
 slot_view (valid b) f = bank_view b f.0 f.1
@@ -127,12 +126,12 @@ slot_view (valid b) f = bank_view b f.0 f.1
 -- taken back and laid out
 
 -- a test that gave something held
-pub held : {A : Type 0} (t : Bool) (o : Option A) (x : A) → cond t o none ≡ some x → (t ≡ true) × (o ≡ some x)
+pub held : {A : Type 0} (t : Bool) (o : Option A) (x : A) → cond t o None ≡ Some x → (t ≡ true) × (o ≡ Some x)
 held true o x e = (refl, e)
 held false o x e = clash cc
 
-fits_back : (h : StoreHeader) (e : Entry) (p : List ℕ) (k : Slot) → view_head (Good h) e p ≡ some k
-    → Fits h e p × (slot_with h e.usable (view_records (take (e.total - 24) (drop 24 p))) ≡ some k)
+fits_back : (h : StoreHeader) (e : Entry) (p : List ℕ) (k : Slot) → view_head (Ok h) e p ≡ Some k
+    → Fits h e p × (slot_with h e.usable (view_records (take (e.total - 24) (drop 24 p))) ≡ Some k)
 unfolding view_head
 fits_back h e p k v =
     let o = held _ _ k v in
@@ -152,11 +151,11 @@ fits_back h e p k v =
       o.1,
     )
 
-slot_some : (h : StoreHeader) (u : ℕ) (o : Option (List Record)) (k : Slot) → slot_with h u o ≡ some k
-    → (rs : List Record) × (o ≡ some rs) × (valid (bank_of h rs u) ≡ k)
+slot_some : (h : StoreHeader) (u : ℕ) (o : Option (List Record)) (k : Slot) → slot_with h u o ≡ Some k
+    → (rs : List Record) × (o ≡ Some rs) × (valid (bank_of h rs u) ≡ k)
 unfolding slot_with
-slot_some h u none k e = clash cc
-slot_some h u (some rs) k e = (rs, refl, cc)
+slot_some h u None k e = clash cc
+slot_some h u (Some rs) k e = (rs, refl, cc)
 
 -- e and p are the entry and the part of a slot
 abbrev pub Laid : Entry → List ℕ → Slot → Type 0
@@ -164,7 +163,6 @@ Laid e p k = (e ≡ entry_of k) × (p ≡ part_of part_size k) × FineSlot k
 
 blank_back : (e : Entry) (p : List ℕ) (k : Kind) → length p ≡ part_size → e.kind ≡ k → is_blank e p ≡ true
     → (e ≡ entry k 0 0) × (p ≡ replicate part_size 255)
-unfolding is_blank
 blank_back e p k n q h =
     let a = and_both _ _ h in
     let b = and_both _ _ a.1 in
@@ -175,8 +173,8 @@ blank_back e p k n q h =
     )
 
 module _ (e : Entry) (p : List ℕ) (y : Bytes p) (n : length p ≡ part_size) where
-  bank_back : (h : StoreHeader) (rs : List Record) → e.kind ≡ Valid → read_header p ≡ Good h → Fits h e p
-      → view_records (take (e.total - 24) (drop 24 p)) ≡ some rs → Laid e p (valid (bank_of h rs e.usable))
+  bank_back : (h : StoreHeader) (rs : List Record) → e.kind ≡ Valid → read_header p ≡ Ok h → Fits h e p
+      → view_records (take (e.total - 24) (drop 24 p)) ≡ Some rs → Laid e p (valid (bank_of h rs e.usable))
   unfolding entry_of part_of padded bank_bytes total
   bank_back h rs q g f v =
       let b : Bank = bank_of h rs e.usable in
@@ -203,28 +201,26 @@ module _ (e : Entry) (p : List ℕ) (y : Bytes p) (n : length p ≡ part_size) w
         ),
       )
 
-pub slot_back : (e : Entry) (p : List ℕ) (k : Slot) → Bytes p → length p ≡ part_size → view_slot e p ≡ some k → Laid e p k
+pub slot_back : (e : Entry) (p : List ℕ) (k : Slot) → Bytes p → length p ≡ part_size → view_slot e p ≡ Some k → Laid e p k
 unfolding view_slot view_kind entry_of part_of view_head
 slot_back e p k y n v = by_kind e.kind refl v
   where
-    by_head : e.kind ≡ Valid → (o : Head) → read_header p ≡ o → view_head o e p ≡ some k → Laid e p k
-    by_head q (Good h) g v =
+    by_head : e.kind ≡ Valid → (o : Result StoreHeader HeaderFault) → read_header p ≡ o → view_head o e p ≡ Some k → Laid e p k
+    by_head q (Ok h) g v =
         let f = fits_back h e p k v in
         let r = slot_some h e.usable (view_records (take (e.total - 24) (drop 24 p))) k f.1 in
         subst (Laid e p) r.2 (bank_back e p y n h r.0 q g f.0 r.1)
-    by_head q Signature g v = clash cc
-    by_head q Version g v = clash cc
-    by_head q Size g v = clash cc
+    by_head q (Err x) g v = clash cc
 
     blank : (c : Kind) (x : Slot) → e.kind ≡ c → entry_of x ≡ entry c 0 0 → part_of part_size x ≡ replicate part_size 255 → FineSlot x
-        → cond (is_blank e p) (some x) none ≡ some k → Laid e p k
+        → cond (is_blank e p) (Some x) None ≡ Some k → Laid e p k
     blank c x q a b f v =
-        let o = held (is_blank e p) (some x) k v in
+        let o = held (is_blank e p) (Some x) k v in
         let i : x ≡ k = cc o.1 in
         let l = blank_back e p c n q o.0 in
         subst (Laid e p) i (l.0 ∙ sym a, l.1 ∙ sym b, f)
 
-    by_kind : (c : Kind) → e.kind ≡ c → view_kind c e p ≡ some k → Laid e p k
+    by_kind : (c : Kind) → e.kind ≡ c → view_kind c e p ≡ Some k → Laid e p k
     by_kind Empty q v = blank Empty empty q refl refl tt v
     by_kind Invalid q v = blank Invalid invalid q refl refl tt v
     by_kind Valid q v = by_head q (read_header p) refl v

@@ -1,7 +1,6 @@
 -- The contract of every call: what it answers and leaves is what the call does to the book that state and work area hold, laid out again;
 -- or 6, and nothing changed.
-use Rattle.std.specs.Prelude.{ℕ, ◌≡◌, List, [], replicate}
-use Rattle.std.proofs.Math.Option.{Option, none, some}
+use Rattle.std.specs.Prelude.{ℕ, ◌≡◌, List, [], replicate, Option, None, Some}
 use Rattle.tally.specs.Tally.{no_tally}
 use Rattle.book.specs.Book.{Book}
 use Rattle.book.specs.Opening.{Opened, opened, refused}
@@ -19,8 +18,8 @@ pub record After : Type 0 where
   pub work : List ℕ
 
 unfoldable pub on_book : Option Book → Call → Nvram → List ℕ → After
-on_book none c s w = record { answer = refusal c 6; out = []; state = s; work = w }
-on_book (some b) c s w =
+on_book None c s w = record { answer = refusal c 6; out = []; state = s; work = w }
+on_book (Some b) c s w =
     record {
       answer = (step b c).answer;
       out = (step b c).out;

@@ -1,6 +1,6 @@
 -- A book laid out as a state and a work area (01, 'Opening'), and the book that a state and a work area hold, if they are sound (refusal 6).
-use Rattle.std.specs.Prelude.{ℕ, zero, suc, ◌*◌, ◌-◌, List, [], ◌∷◌, ◌++◌, map, Bool, true, false, ◌&&◌, cond, length, set, take, drop, replicate, leb, ltb, eqb}
-use Rattle.std.proofs.Math.Option.{Option, none, some}
+use Rattle.std.specs.Prelude.{ℕ, zero, suc, ◌*◌, ◌-◌, List, [], ◌∷◌, ◌++◌, map, Bool, true, false, ◌&&◌, cond, length, set, take, drop, replicate, leb, ltb, eqb, Option, None, Some}
+use Rattle.std.specs.List.{list_all}
 use Rattle.bank.specs.Bank.{Slot, part_of}
 use Rattle.tally.specs.declared.Tally.{Tally}
 use Rattle.book.specs.Book.{part_size, Book}
@@ -41,29 +41,28 @@ is_empty Valid = false
 abbrev pub is_free : Entry → Bool
 is_free e = is_empty e.kind && (eqb e.total 0 && eqb e.usable 0)
 
-unfoldable pub all_free : List Entry → Bool
-all_free [] = true
-all_free (e ∷ es) = is_free e && all_free es
+abbrev pub all_free : List Entry → Bool
+all_free es = list_all is_free es
 
 unfoldable pub prepend_slot : Option Slot → Option (List Slot) → Option (List Slot)
-prepend_slot none o = none
-prepend_slot (some s) none = none
-prepend_slot (some s) (some ss) = some (s ∷ ss)
+prepend_slot None o = None
+prepend_slot (Some s) None = None
+prepend_slot (Some s) (Some ss) = Some (s ∷ ss)
 
 -- n slots from their entries and parts; the entries behind them are Empty
 unfoldable pub view_slots : ℕ → List Entry → List ℕ → Option (List Slot)
-view_slots zero es w = cond (all_free es) (some []) none
-view_slots (suc n) [] w = none
+view_slots zero es w = cond (all_free es) (Some []) None
+view_slots (suc n) [] w = None
 view_slots (suc n) (e ∷ es) w = prepend_slot (view_slot e (take part_size w)) (view_slots n es (drop part_size w))
 
 unfoldable pub book_with : Nvram → Option (List Slot) → Option Book
-book_with s none = none
-book_with s (some ss) = some (record { n = s.n; active = s.active; slots = ss })
+book_with s None = None
+book_with s (Some ss) = Some (record { n = s.n; active = s.active; slots = ss })
 
 -- n is 1 to 16, active < n, work long enough
-unfoldable pub in_range : Nvram → List ℕ → Bool
+abbrev pub in_range : Nvram → List ℕ → Bool
 in_range s w = leb 1 s.n && (leb s.n 16 && (ltb s.active s.n && leb (s.n * part_size) (length w)))
 
 -- refusal 6 is that this gives nothing
 unfoldable pub view : Nvram → List ℕ → Option Book
-view s w = cond (in_range s w) (book_with s (view_slots s.n s.banks w)) none
+view s w = cond (in_range s w) (book_with s (view_slots s.n s.banks w)) None

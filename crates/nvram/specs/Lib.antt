@@ -1,3 +1,4 @@
+pub mod Kind
 pub mod Part
 pub mod Layout
 pub mod Soundness

@@ -6,7 +6,6 @@ mod sound;
 mod state;
 mod summary;
 
-pub use ready::Ready;
 pub use sound::{check, is_sound};
-pub use state::{Entry, Kind, Nvram, no_banks, no_state};
-pub use summary::{Soundness, Summary};
+pub use state::{Entry, Kind, Nvram, UnknownKind, no_banks, no_state};
+pub use summary::Summary;

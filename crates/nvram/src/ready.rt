@@ -3,36 +3,25 @@ ghost use Rattle.std.specs.Prelude.{◌≡◌};
 ghost use Rattle.nvram.specs.Ready.{ready_of};
 
 use super::sound::is_sound;
-use super::state::{Kind, Nvram};
+use super::state::{Entry, Kind, Nvram};
 use bank::Variable;
-
-// Refused by a number, or where the active bank's records begin and end in the work area.
-#[derive(Clone, Copy)]
-pub enum Ready {
-    Refused(u32),
-    Records(usize, usize),
-}
+use refusal::Refusal;
+use std::ops::Range;
 
 impl Nvram {
-    pub fn ready(self, work: &[u8]) -> Ready
+    // Where the active bank's records stand in the work area.
+    pub fn ready(self, work: &[u8]) -> Result<Range<usize>, Refusal>
         ensures { result ≡ ready_of self work.now }
     {
         if !is_sound(self, work) {
-            return Ready::Refused(6);
+            return Err(Refusal::NotSound);
         }
         let i = self.active as usize;
-        let entry = self.banks[i];
-        let kind = entry.kind;
-        match kind {
-            Kind::Empty => Ready::Refused(7),
-            Kind::Invalid => Ready::Refused(7),
-            Kind::Valid => {
-                let part = i * Nvram::PART_SIZE;
-                Ready::Records(
-                    part + Variable::STORE_HEADER_SIZE,
-                    part + entry.total as usize,
-                )
-            }
+        let Entry { kind, total, .. } = self.banks[i];
+        if kind != Kind::Valid {
+            return Err(Refusal::NotValid);
         }
+        let part = i * Nvram::PART_SIZE;
+        Ok(part + Variable::STORE_HEADER_SIZE..part + total as usize)
     }
 }

@@ -2,15 +2,18 @@
 use Prim.Native.Nat.{ℕ, suc, ◌+◌, ◌-◌, ◌*◌, ◌≤◌, ◌<◌}
 use mathlib.Core.Path.{◌≡◌, refl, sym, ap, ap₂, ◌∙◌, subst}
 use mathlib.Core.List.{List, [], ◌∷◌, ◌++◌, append_assoc, append-nil, map, map-append}
-use mathlib.Core.Bool.{Bool, true, false, cond}
-use native.Mathlib.Nat.{zero-mul, sub-zero}
+use mathlib.Core.Bool.{true, false, cond}
+use Rattle.std.specs.Prelude.{Some}
+use native.Mathlib.Nat.{zero-mul}
 use native.Mathlib.Numerals.{add-one}
 use native.Mathlib.Omega.{arith}
 use lib.Dec.{ltb}
-use lib.ListN.{length, set, take, drop, replicate, length-append, length-take, length-drop, length-map}
-use lib.Seq.{take-take, drop-drop, take_at, set_at, append_snoc, drop-append-add}
+use lib.ListN.{length, get_or, set, take, drop, replicate, length-append, length-drop, length-map, drop_of_length-le}
+use lib.Seq.{drop-drop, take_at, set_at, append_snoc, drop-append-add, take_all, take-suc, drop-cons, length-take-le}
 use borrow.Author.Tests.{le-leb}
 use borrow.Rule.Slice.PartMut.{put_mid, Post-is}
+use Rattle.crc32.specs.Crc32.{Bytes}
+use Rattle.buffers.proofs.Laws.{clash}
 use Rattle.tally.specs.declared.Tally.{Tally}
 use Rattle.tally.specs.Tally.{no_tally}
 use Rattle.bank.specs.declared.partition.Partition.{Partition}
@@ -19,112 +22,100 @@ use Rattle.bank.specs.declared.partition.Slot.TheVariants as told
 use Rattle.bank.specs.Bank.{Slot, empty, invalid, valid, bank_size, part_of}
 use Rattle.bank.specs.Read.{read_bank}
 use Rattle.bank.specs.Answer.{partition_of, answer, parsed, serialized_slot, serialized_part}
-use Rattle.bank.proofs.PartitionLaws.{bank_size_lem, parsed_long}
-use Rattle.bank.proofs.SerializeLaws.{slot_is}
+use Rattle.bank.proofs.PartitionLaws.{bank_size_lem}
 use Rattle.book.specs.Book.{part_size, FineSlot}
-use Rattle.book.specs.Opening.{slot_in, read_slots, active_from, is_valid, book_of}
+use Rattle.book.specs.Opening.{active_from, is_valid, book_of}
 use Rattle.book.proofs.BookLaws.{part_size_lem}
-use Rattle.book.proofs.SlotReads.{next_times, slots_here, slots_more, slots_long}
+use Rattle.book.proofs.OpenFine.{bank_fine}
 use Rattle.nvram.specs.declared.state.Kind.TheVariants.{Empty, Invalid, Valid}
 use Rattle.nvram.specs.declared.state.Entry.{Entry}
 use Rattle.nvram.specs.Part.{entry, entry_of}
 use Rattle.nvram.specs.Layout.{lay_table, lay_state, lay_parts, lay_work}
 
--- what the code reads off an answer is what the definitions say of the slot
+-- a slot that the code was told
+module _ (slot : Parsed) where
+  module _ (p : Partition) (g : slot ≡ told.Valid p) where
+    pub told_valid : (k : Slot) → slot ≡ answer k → (is_valid k ≡ true) × (entry_of k ≡ entry Valid p.total_used p.usable_size)
+    unfolding answer entry_of partition_of
+    told_valid empty e = clash cc
+    told_valid invalid e = clash cc
+    told_valid (valid b) e =
+        let q : partition_of b ≡ p = cc in
+        (refl, ap (λ (x : Partition). entry Valid x.total_used x.usable_size) q)
 
-abbrev entry_told : Parsed → Entry
-entry_told told.Short = entry Invalid 0 0
-entry_told told.Empty = entry Empty 0 0
-entry_told told.Invalid = entry Invalid 0 0
-entry_told (told.Valid p) = entry Valid p.total_used p.usable_size
+    pub active_valid : (i best active : ℕ) (k : Slot) (rest : List Slot) → slot ≡ answer k
+        → active_from i best active (k ∷ rest)
+        ≡ cond (ltb best p.header.generation) (active_from (suc i) p.header.generation i rest) (active_from (suc i) best active rest)
+    unfolding answer active_from partition_of
+    active_valid i best active empty rest e = clash cc
+    active_valid i best active invalid rest e = clash cc
+    active_valid i best active (valid b) rest e =
+        let q : partition_of b ≡ p = cc in
+        ap (λ (x : Partition). cond (ltb best x.header.generation) (active_from (suc i) x.header.generation i rest) (active_from (suc i) best active rest)) q
 
-entry_told_lem : (k : Slot) → entry_told (answer k) ≡ entry_of k
-unfolding answer entry_of partition_of
-entry_told_lem empty = refl
-entry_told_lem invalid = refl
-entry_told_lem (valid b) = refl
+    pub cast_fits : (k : Slot) × (slot ≡ answer k) × FineSlot k → (p.total_used ≤ 131072) × (p.usable_size ≤ 65536)
+    unfolding answer partition_of
+    cast_fits (empty, e, f) = clash cc
+    cast_fits (invalid, e, f) = clash cc
+    cast_fits (valid b, e, f) =
+        let q : partition_of b ≡ p = cc in
+        let u = f.0.usable_high in
+        let s = f.0.header_fine.size_high in
+        subst (λ (x : Partition). (x.total_used ≤ 131072) × (x.usable_size ≤ 65536)) q (omega (arith, f.1, part_size_lem), omega arith)
 
-pub entry_is : (slot x : Parsed) → slot ≡ x → (k : Slot) → slot ≡ answer k → entry_told x ≡ entry_of k
-entry_is slot x g k e = ap entry_told (sym g ∙ e) ∙ entry_told_lem k
+  module _ (other : (p : Partition) → slot ≡ told.Valid p → ⊥) where
+    pub told_other : (k : Slot) → slot ≡ answer k → is_valid k ≡ false
+    unfolding answer
+    told_other empty e = refl
+    told_other invalid e = refl
+    told_other (valid b) e = absurd (other _ e)
 
-abbrev valid_told : Parsed → Bool
-valid_told told.Short = false
-valid_told told.Empty = false
-valid_told told.Invalid = false
-valid_told (told.Valid p) = true
+    pub active_other : (i best active : ℕ) (k : Slot) (rest : List Slot) → slot ≡ answer k → active_from i best active (k ∷ rest) ≡ active_from (suc i) best active rest
+    unfolding answer active_from
+    active_other i best active empty rest e = refl
+    active_other i best active invalid rest e = refl
+    active_other i best active (valid b) rest e = absurd (other _ e)
 
-valid_told_lem : (k : Slot) → valid_told (answer k) ≡ is_valid k
-unfolding answer
-valid_told_lem empty = refl
-valid_told_lem invalid = refl
-valid_told_lem (valid b) = refl
+pub told_empty : (k : Slot) → answer k ≡ told.Empty → entry Empty 0 0 ≡ entry_of k
+unfolding answer entry_of
+told_empty empty e = refl
+told_empty invalid e = clash cc
+told_empty (valid b) e = clash cc
 
-abbrev pub active_told : ℕ → ℕ → ℕ → List Slot → Parsed → ℕ
-active_told i best active rest told.Short = active_from (suc i) best active rest
-active_told i best active rest told.Empty = active_from (suc i) best active rest
-active_told i best active rest told.Invalid = active_from (suc i) best active rest
-active_told i best active rest (told.Valid p) =
-    cond (ltb best p.header.generation) (active_from (suc i) p.header.generation i rest) (active_from (suc i) best active rest)
+pub told_invalid : (k : Slot) → answer k ≡ told.Invalid → entry Invalid 0 0 ≡ entry_of k
+unfolding answer entry_of
+told_invalid empty e = clash cc
+told_invalid invalid e = refl
+told_invalid (valid b) e = clash cc
 
-active_told_lem : (i best active : ℕ) (rest : List Slot) (k : Slot) → active_from i best active (k ∷ rest) ≡ active_told i best active rest (answer k)
-unfolding answer active_from partition_of
-active_told_lem i best active rest empty = refl
-active_told_lem i best active rest invalid = refl
-active_told_lem i best active rest (valid b) = refl
+-- a bank's bytes in a part of the work area
+module _ (s out : List ℕ) (long : length s ≡ 65536) (room : length out ≡ 131072) where
+  enough : bank_size ≤ length s
+  enough = omega (arith, bank_size_lem)
 
-pub active_is : (i best active : ℕ) (slot x : Parsed) → slot ≡ x → (k : Slot) (rest : List Slot) → slot ≡ answer k
-    → active_from i best active (k ∷ rest) ≡ active_told i best active rest x
-active_is i best active slot x g k rest e = active_told_lem i best active rest k ∙ ap (active_told i best active rest) (sym e ∙ g)
+  space : bank_size ≤ length out
+  space = omega (arith, bank_size_lem)
 
-abbrev FitsTold : Parsed → Type 0
-FitsTold told.Short = Unit {0}
-FitsTold told.Empty = Unit {0}
-FitsTold told.Invalid = Unit {0}
-FitsTold (told.Valid p) = (p.total_used ≤ 131072) × (p.usable_size ≤ 65536)
+  whole : take bank_size s ≡ s
+  whole = take_all bank_size s (omega (arith, bank_size_lem))
 
-fits_told : (k : Slot) → FineSlot k → FitsTold (answer k)
-unfolding answer partition_of
-fits_told empty f = tt
-fits_told invalid f = tt
-fits_told (valid b) f =
-    let u = f.0.usable_high in
-    let s = f.0.header_fine.size_high in
-    (omega (arith, f.1, part_size_lem), omega arith)
+  pub serialized_slot_lem : serialized_slot s out ≡ Some (answer (read_bank s))
+  unfolding serialized_slot parsed
+  serialized_slot_lem = let h = enough in let k = space in simp (le-leb _ _ h, le-leb _ _ k, whole)
 
-pub cast_fits : (slot : Parsed) (p : Partition) → (k : Slot) × (slot ≡ answer k) × FineSlot k → slot ≡ told.Valid p
-    → (p.total_used ≤ 131072) × (p.usable_size ≤ 65536)
-cast_fits slot p (k, e, f) g = subst FitsTold (sym e ∙ g) (fits_told k f)
+  pub serialized_part_lem : serialized_part s out ≡ part_of part_size (read_bank s)
+  unfolding serialized_part
+  serialized_part_lem =
+      let h = enough in
+      let k = space in
+      let n : length out ≡ part_size = omega (arith, part_size_lem) in
+      simp (le-leb _ _ h, le-leb _ _ k, whole) (ap (λ (m : ℕ). part_of m (read_bank s)) n)
 
-module _ (image : List ℕ) (i a m : ℕ) (is : a ≡ i * 65536) (long : m ≡ 65536) (within : a + m ≤ length image) where
-  bank_start : a ≡ i * bank_size
-  bank_start = is ∙ ap (λ (k : ℕ). i * k) (sym bank_size_lem)
-
-  lent : length (take m (drop a image)) ≡ m
-  lent = simp (length-take, length-drop) (omega arith)
-
-  bank_is : read_bank (take bank_size (take m (drop a image))) ≡ slot_in image i
-  bank_is =
-      let h : bank_size ≤ m = omega (arith, bank_size_lem) in
-      ap read_bank (take-take bank_size m (drop a image) h ∙ ap (λ (k : ℕ). take bank_size (drop k image)) bank_start)
-
-  parsed_bank : parsed (take m (drop a image)) ≡ answer (slot_in image i)
-  parsed_bank = sym (parsed_long (take m (drop a image)) bank_size bank_size_lem (omega (arith, lent))) ∙ ap answer bank_is
-
-  pub valid_is : (slot x : Parsed) → slot ≡ parsed (take m (drop a image)) → slot ≡ x → valid_told x ≡ is_valid (slot_in image i)
-  valid_is slot x e g = ap valid_told (sym g ∙ e ∙ parsed_bank) ∙ valid_told_lem (slot_in image i)
-
-  module _ (out : List ℕ) (room : length out ≡ 131072) where
-    pub serialized_slot_lem : serialized_slot (take m (drop a image)) out ≡ answer (slot_in image i)
-    serialized_slot_lem =
-        sym (slot_is (take m (drop a image)) out (omega arith) (parsed (take m (drop a image))) refl) ∙ parsed_bank
-
-    pub serialized_part_lem : serialized_part (take m (drop a image)) out ≡ part_of part_size (slot_in image i)
-    unfolding serialized_part
-    serialized_part_lem =
-        let h : bank_size ≤ length out = omega (arith, bank_size_lem) in
-        let k : bank_size ≤ length (take m (drop a image)) = omega (arith, bank_size_lem, lent) in
-        let n : length out ≡ part_size = omega (arith, part_size_lem) in
-        simp (le-leb _ _ h, le-leb _ _ k) (ap₂ part_of n bank_is)
+pub read_fine : (s : List ℕ) → Bytes s → length s ≡ 65536 → FineSlot (read_bank s)
+read_fine s b l =
+    let e : take bank_size (drop (0 * bank_size) s) ≡ s =
+    ap (λ (k : ℕ). take bank_size (drop k s)) (zero-mul bank_size) ∙ take_all bank_size s (omega (arith, bank_size_lem)) in
+    subst (λ (x : List ℕ). FineSlot (read_bank x)) e (bank_fine s 0 b (omega arith))
 
 -- a part that was lent and is back
 pub part_back : (w x y : List ℕ) (i a e : ℕ) → a ≡ i * 131072 → e ≡ a + 131072 → x ≡ y
@@ -153,36 +144,35 @@ parts_more [] k = append-nil (part_of part_size k)
 parts_more (s ∷ ss) k =
     ap (λ (l : List ℕ). part_of part_size s ++ l) (parts_more ss k) ∙ sym (append_assoc (part_of part_size s) (lay_parts ss) (part_of part_size k))
 
--- what stands after i of n banks: their entries and parts, and which bank is active as far as those behind say
-pub record Loaded (image before : List ℕ) (n i : ℕ) (work : List ℕ) (banks : List Entry) (best active : ℕ) : Type 0 where
-  pub within : i ≤ n
+-- what stands after i of the slots: their entries and parts, and which bank is active as far as those behind say
+pub record Loaded (ss : List Slot) (before : List ℕ) (i : ℕ) (work : List ℕ) (entries : List Entry) (best active : ℕ) : Type 0 where
+  pub within : i ≤ length ss
   pub kept : length work ≡ length before
-  pub table : banks ≡ lay_table (read_slots i image)
-  pub parts : work ≡ lay_parts (read_slots i image) ++ drop (i * part_size) before
-  pub left : active_from 0 0 0 (read_slots n image) ≡ active_from i best active (read_slots (n - i) (drop (i * bank_size) image))
+  pub table : entries ≡ lay_table (take i ss)
+  pub parts : work ≡ lay_parts (take i ss) ++ drop (i * part_size) before
+  pub left : active_from 0 0 0 ss ≡ active_from i best active (drop i ss)
 
-pub load_none : (image w : List ℕ) (n : ℕ) (banks : List Entry) → banks ≡ replicate 16 (entry Empty 0 0) → Loaded image w n 0 w banks 0 0
-unfolding read_slots lay_table lay_parts
-load_none image w n banks e =
-    record {
-      within = omega arith;
-      kept = refl;
-      table = e;
-      parts = ap (λ (k : ℕ). drop k w) (sym (zero-mul part_size));
-      left = ap₂ (λ (k : ℕ) (l : List ℕ). active_from 0 0 0 (read_slots k l)) (sym (sub-zero n)) (ap (λ (k : ℕ). drop k image) (sym (zero-mul bank_size)));
-    }
+module _ (ss : List Slot) (w : List ℕ) (entries : List Entry) where
+  pub load_none : entries ≡ replicate 16 (entry Empty 0 0) → Loaded ss w 0 w entries 0 0
+  unfolding lay_table lay_parts
+  load_none e = record { within = omega arith; kept = refl; table = e; parts = ap (λ (k : ℕ). drop k w) (sym (zero-mul part_size)); left = refl }
 
-module _ (image before : List ℕ) (n i : ℕ) (work : List ℕ) (banks : List Entry) (best active : ℕ) (l : Loaded image before n i work banks best active) where
-  module _ (work' : List ℕ) (e : Entry) (best' active' : ℕ) (small : n ≤ 16) (here : i < n) (room : n * 131072 ≤ length before)
+module _ (ss : List Slot) (before : List ℕ) (i : ℕ) (work : List ℕ) (entries : List Entry) (best active : ℕ) (l : Loaded ss before i work entries best active) where
+  module _ (work' : List ℕ) (e : Entry) (best' active' : ℕ) (d k : Slot) (small : length ss ≤ 16) (here : i < length ss)
+      (room : length ss * 131072 ≤ length before)
+      (is : get_or ss i d ≡ k)
       (kept : length work' ≡ length work)
-      (part : work' ≡ take (i * part_size) work ++ (part_of part_size (slot_in image i) ++ drop ((i + 1) * part_size) work))
-      (filled : e ≡ entry_of (slot_in image i))
-      (takes : (rest : List Slot) → active_from i best active (slot_in image i ∷ rest) ≡ active_from (suc i) best' active' rest) where
+      (part : work' ≡ take (i * part_size) work ++ (part_of part_size k ++ drop ((i + 1) * part_size) work))
+      (filled : e ≡ entry_of k)
+      (takes : (rest : List Slot) → active_from i best active (k ∷ rest) ≡ active_from (suc i) best' active' rest) where
     abbrev so_far : List Slot
-    so_far = read_slots i image
+    so_far = take i ss
 
-    more : read_slots (i + 1) image ≡ so_far ++ (slot_in image i ∷ [])
-    more = ap (λ (j : ℕ). read_slots j image) (add-one i) ∙ slots_more image i
+    so_long : length so_far ≡ i
+    so_long = length-take-le i ss (omega arith)
+
+    more : take (i + 1) ss ≡ so_far ++ (k ∷ [])
+    more = ap (λ (j : ℕ). take j ss) (add-one i) ∙ take-suc ss i d here ∙ ap (λ (x : Slot). so_far ++ (x ∷ [])) is
 
     start : i * part_size ≡ i * 131072
     start = ap (λ (k : ℕ). i * k) part_size_lem
@@ -195,45 +185,45 @@ module _ (image before : List ℕ) (n i : ℕ) (work : List ℕ) (banks : List E
 
     behind : drop ((i + 1) * part_size) work ≡ drop ((i + 1) * part_size) before
     behind =
-        ap₂ drop (next_times i part_size ∙ ap (λ (k : ℕ). k + part_size) (sym front)) l.parts
+        let next : (i + 1) * part_size ≡ i * part_size + part_size = omega arith in
+        ap₂ drop (next ∙ ap (λ (k : ℕ). k + part_size) (sym front)) l.parts
         ∙ drop-append-add (lay_parts so_far) (drop (i * part_size) before) part_size
         ∙ drop-drop part_size (i * part_size) before
-        ∙ ap (λ (k : ℕ). drop k before) (sym (next_times i part_size))
+        ∙ ap (λ (k : ℕ). drop k before) (sym next)
 
-    pub load_more : Loaded image before n (i + 1) work' (set banks i e) best' active'
+    pub load_more : Loaded ss before (i + 1) work' (set entries i e) best' active'
     load_more =
         record {
           within = omega arith;
           kept = kept ∙ l.kept;
           table =
               ap₂ (λ (t : List Entry) (x : Entry). set t i x) l.table filled
-              ∙ table_more so_far (slot_in image i) i (slots_long i image) (omega arith)
+              ∙ table_more so_far k i so_long (omega arith)
               ∙ ap lay_table (sym more);
           parts =
               part
-              ∙ ap₂ (λ (x y : List ℕ). x ++ (part_of part_size (slot_in image i) ++ y))
+              ∙ ap₂ (λ (x y : List ℕ). x ++ (part_of part_size k ++ y))
               (ap (take (i * part_size)) l.parts ∙ take_at (lay_parts so_far) (drop (i * part_size) before) (i * part_size) front) behind
-              ∙ sym (append_assoc (lay_parts so_far) (part_of part_size (slot_in image i)) (drop ((i + 1) * part_size) before))
-              ∙ ap (λ (x : List ℕ). x ++ drop ((i + 1) * part_size) before) (sym (ap lay_parts more ∙ parts_more so_far (slot_in image i)));
+              ∙ sym (append_assoc (lay_parts so_far) (part_of part_size k) (drop ((i + 1) * part_size) before))
+              ∙ ap (λ (x : List ℕ). x ++ drop ((i + 1) * part_size) before) (sym (ap lay_parts more ∙ parts_more so_far k));
           left =
-              l.left ∙ ap (active_from i best active) (slots_here image n i here) ∙ takes (read_slots (n - (i + 1)) (drop ((i + 1) * bank_size) image))
-              ∙ ap (λ (j : ℕ). active_from j best' active' (read_slots (n - (i + 1)) (drop ((i + 1) * bank_size) image))) (sym (add-one i));
+              l.left ∙ ap (active_from i best active) (drop-cons ss i d here ∙ ap (λ (x : Slot). x ∷ drop (suc i) ss) is) ∙ takes (drop (suc i) ss)
+              ∙ ap (λ (j : ℕ). active_from j best' active' (drop j ss)) (sym (add-one i));
         }
 
-  module _ (done : n ≤ i) where
-    all : i ≡ n
-    all = omega (arith, l.within)
+  module _ (n : ℕ) (long : n ≡ length ss) (done : n ≤ i) where
+    all : take i ss ≡ ss
+    all = take_all i ss (omega arith)
 
-    pub load_state : (tally : Tally) → tally ≡ no_tally
-        → record { n = n; active = active; tally = tally; banks = banks } ≡ lay_state (book_of (read_slots n image) n) no_tally
-    unfolding read_slots active_from
+    pub load_state : (tally : Tally) → tally ≡ no_tally → record { n = n; active = active; tally = tally; banks = entries } ≡ lay_state (book_of ss n) no_tally
+    unfolding active_from
     load_state tally e =
-        let z : n - i ≡ 0 = omega arith in
-        let a : active_from 0 0 0 (read_slots n image) ≡ active =
-        l.left ∙ ap (λ (k : ℕ). active_from i best active (read_slots k (drop (i * bank_size) image))) z in
-        let t : banks ≡ lay_table (read_slots n image) = l.table ∙ ap (λ (k : ℕ). lay_table (read_slots k image)) all in
+        let a : active_from 0 0 0 ss ≡ active = l.left ∙ ap (active_from i best active) (drop_of_length-le ss {i = i} (omega arith)) in
+        let t : entries ≡ lay_table ss = l.table ∙ ap lay_table all in
         λ j. record { n = n; active = sym a j; tally = e j; banks = t j }
 
-    pub load_work : work ≡ lay_work (book_of (read_slots n image) n) before
+    pub load_work : work ≡ lay_work (book_of ss n) before
     unfolding lay_work
-    load_work = l.parts ∙ ap (λ (k : ℕ). lay_parts (read_slots k image) ++ drop (k * part_size) before) all
+    load_work =
+        let e : i ≡ n = omega (arith, l.within) in
+        l.parts ∙ ap₂ (λ (x : List Slot) (k : ℕ). lay_parts x ++ drop (k * part_size) before) all e

@@ -1,26 +1,87 @@
 -- Carrying through the places: what is left to do from a place on, and what the whole walk comes to.
 use Prim.Native.Nat.{ℕ, zero, suc, ◌+◌, ◌-◌, ◌*◌, ◌/◌, ◌%◌, ◌≤◌, ◌<◌}
-use mathlib.Core.Path.{◌≡◌, refl, sym, ◌∙◌}
-use mathlib.Core.Bool.{true}
+use mathlib.Core.Path.{◌≡◌, refl, sym, ap, ◌∙◌}
+use mathlib.Core.Bool.{Bool, true, false, cond}
 use mathlib.Core.List.{List, [], ◌∷◌}
 use native.Mathlib.Omega.{arith}
-use native.Mathlib.Nat.{mod-eq-sub-mul-div, mul-div-le, div-eq_of_lt, add-mul-div_left}
+use native.Mathlib.Nat.{mod-eq_of_lt, mod-eq-sub-mul-div, div-eq_of_lt, add-mul-div_left}
+use mir.Val.{bool_byte}
+use lib.Dec.{leb}
 use lib.ListN.{get_or, set}
-use Rattle.rate.specs.declared.places.Carried.{Carried}
+use borrow.Author.Tests.{leb-true, leb-false, le-leb, lt-leb}
 use Rattle.rate.specs.Rate.{magnitude, in_range, places_of}
-use Rattle.rate.specs.Places.{limit_of, carried}
 use Rattle.rate.proofs.PlaceLaws.{InRange, range_shows}
+
+abbrev pub limits : List ℕ
+limits = 24 ∷ 60 ∷ 60 ∷ 60 ∷ []
+
+pub unit_most : (b : Bool) → bool_byte b ≤ 1
+unit_most false = omega arith
+unit_most true = omega arith
+
+pub unit_is : (b : Bool) → bool_byte b ≡ cond b 1 0
+unit_is false = refl
+unit_is true = refl
+
+-- what goes over
+pub no_over : (n l : ℕ) → n < l → 0 ≡ n / l
+no_over n l h = sym (div-eq_of_lt h)
+
+-- a place that comes to n, of which it holds so many: what goes over, and what stays
+one_place : (n most : ℕ) → n < most + most → (bool_byte (leb most n) ≡ n / most) × (cond (leb most n) (n - most) n ≡ n % most)
+one_place n most h = go (leb most n) refl
+  where
+    go : (t : Bool) → leb most n ≡ t → (bool_byte t ≡ n / most) × (cond t (n - most) n ≡ n % most)
+    go true e =
+        let k : most ≤ n = leb-true _ _ e in
+        let z : 0 < most = omega arith in
+        let r : n - most < most = omega arith in
+        let d : n ≡ n - most + most * 1 = omega arith in
+        let q : n / most ≡ 1 = rw d (add-mul-div_left (n - most) 1 z ∙ rw (div-eq_of_lt r)) in
+        (sym q, rw (mod-eq-sub-mul-div n most, q) (omega arith))
+    go false e = let k : n < most = leb-false _ _ e in (no_over n most k, sym (mod-eq_of_lt k))
+
+-- what stays is what c places more leave
+taken : (n most : ℕ) (t : Bool) → (bool_byte t ≡ n / most) × (cond t (n - most) n ≡ n % most) → n - most * bool_byte t ≡ cond t (n - most) n
+taken n most t o = rw (o.0, sym (mod-eq-sub-mul-div n most)) (sym o.1)
+
+module _ (n most x : ℕ) where
+  pub past : most ≤ n → x ≡ n - most → x ≡ cond (leb most n) (n - most) n
+  past h e = rw (le-leb most n h) e
+
+  pub below : n < most → x ≡ n → x ≡ cond (leb most n) (n - most) n
+  below h e = rw (lt-leb most n h) e
+
+-- what a place in range holds
+pub range_at : (p : List ℕ) (i : ℕ) → in_range p ≡ true → i < 4 → get_or p i 0 < get_or limits i 0
+range_at p i g h = go p i (range_shows p g) h
+  where
+    go : (p : List ℕ) (i : ℕ) → InRange p → i < 4 → get_or p i 0 < get_or limits i 0
+    go p zero r h = r.hours
+    go p (suc zero) r h = r.minutes
+    go p (suc (suc zero)) r h = r.seconds
+    go p (suc (suc (suc zero))) r h = r.last
+    go p (suc (suc (suc (suc i)))) r h = absurd (omega arith)
+
+pub limit_most : (i : ℕ) → i < 4 → get_or limits i 0 ≤ 60
+limit_most zero h = omega arith
+limit_most (suc zero) h = omega arith
+limit_most (suc (suc zero)) h = omega arith
+limit_most (suc (suc (suc zero))) h = omega arith
+limit_most (suc (suc (suc (suc i)))) h = absurd (omega arith)
 
 module _ (p q : List ℕ) where
   -- so many places are left, so much was carried to the last of them, and those behind are done
-  unfoldable pub ToCarry : ℕ → ℕ → List ℕ → Carried
-  ToCarry zero over s = record { over = over; places = s }
+  unfoldable pub ToCarry : ℕ → ℕ → List ℕ → List ℕ × ℕ
+  ToCarry zero over s = (s, over)
   ToCarry (suc i) over s =
       let n = get_or p i 0 + get_or q i 0 + over in
-      ToCarry i (n / limit_of i) (set s i (n % limit_of i))
+      let most = get_or limits i 0 in
+      ToCarry i (n / most) (set s i (n % most))
 
-  pub begin : (more : ℕ) → ToCarry 4 more (0 ∷ 0 ∷ 0 ∷ 0 ∷ []) ≡ carried (magnitude p + magnitude q + more)
-  unfolding ToCarry carried magnitude places_of limit_of
+  -- the whole walk: the places of the sum's thirds, and how often 24 hours are over
+  pub begin : (more : ℕ) → let n = magnitude p + magnitude q + more in ToCarry 4 more (0 ∷ 0 ∷ 0 ∷ 0 ∷ []) ≡ (places_of n, n / 60 / 60 / 60 / 24)
+  unfolding ToCarry magnitude places_of
   begin more =
       let n = magnitude p + magnitude q + more in
       let last = get_or p 3 0 + get_or q 3 0 + more in
@@ -35,65 +96,37 @@ module _ (p q : List ℕ) where
       sym (rw (z, m, s, t))
 
   next : (i over : ℕ) (s : List ℕ) → 0 < i
-      → ToCarry i over s
-      ≡ ToCarry (i - 1) ((get_or p (i - 1) 0 + get_or q (i - 1) 0 + over) / limit_of (i - 1)) (set s (i - 1) ((get_or p (i - 1) 0 + get_or q (i - 1) 0 + over) % limit_of (i - 1)))
+      → let n = get_or p (i - 1) 0 + get_or q (i - 1) 0 + over in
+      let most = get_or limits (i - 1) 0 in
+      ToCarry i over s ≡ ToCarry (i - 1) (n / most) (set s (i - 1) (n % most))
   unfolding ToCarry
   next zero over s h = absurd (omega arith)
   next (suc i) over s h = let e : suc i - 1 ≡ i = omega arith in rw e
 
   -- the next place holds l, and c is carried from it
-  pub turn : (i over l c : ℕ) (s : List ℕ) → 0 < i → l ≡ limit_of (i - 1) → c ≡ (get_or p (i - 1) 0 + get_or q (i - 1) 0 + over) / l
+  pub turn : (i over l c : ℕ) (s : List ℕ) → 0 < i → l ≡ get_or limits (i - 1) 0 → c ≡ (get_or p (i - 1) 0 + get_or q (i - 1) 0 + over) / l
       → ToCarry i over s ≡ ToCarry (i - 1) c (set s (i - 1) (get_or p (i - 1) 0 + get_or q (i - 1) 0 + over - l * c))
   turn i over l c s h e f =
       let n = get_or p (i - 1) 0 + get_or q (i - 1) 0 + over in
       rw (f, sym (mod-eq-sub-mul-div n l), e) (next i over s h)
 
-  pub done : (i over : ℕ) (s : List ℕ) → i ≡ 0 → ToCarry i over s ≡ record { over = over; places = s }
+  -- as the code takes it: from two places in range at most 1 is carried, and x stays
+  pub turn_once : (i u x : ℕ) (over : Bool) (s : List ℕ) → 0 < i → i ≤ 4 → in_range p ≡ true → in_range q ≡ true → u ≡ bool_byte over
+      → let n = get_or p (i - 1) 0 + get_or q (i - 1) 0 + u in
+      let most = get_or limits (i - 1) 0 in
+      x ≡ cond (leb most n) (n - most) n → ToCarry i (bool_byte over) s ≡ ToCarry (i - 1) (bool_byte (leb most n)) (set s (i - 1) x)
+  turn_once i u x over s h k a b e f =
+      let n = get_or p (i - 1) 0 + get_or q (i - 1) 0 + u in
+      let most = get_or limits (i - 1) 0 in
+      let l : n < most + most = omega (arith, range_at p (i - 1) a (omega arith), range_at q (i - 1) b (omega arith), e, unit_most over) in
+      let o = one_place n most l in
+      rw (← e) (turn i u most (bool_byte (leb most n)) s h refl o.0 ∙ ap (λ (y : ℕ). ToCarry (i - 1) (bool_byte (leb most n)) (set s (i - 1) y)) (taken n most (leb most n) o ∙ sym f))
+
+  pub done : (i over : ℕ) (s : List ℕ) → i ≡ 0 → ToCarry i over s ≡ (s, over)
   unfolding ToCarry
   done i over s e = rw e
 
--- what a place holds
-
-pub limit_first : (i : ℕ) → i ≡ 0 → 24 ≡ limit_of i
-unfolding limit_of
-limit_first i e = rw e
-
-pub limit_other : (i : ℕ) → (i ≡ 0 → ⊥) → 60 ≡ limit_of i
-unfolding limit_of
-limit_other zero h = absurd (h refl)
-limit_other (suc i) h = refl
-
--- two numbers in range and what is carried, at a place
-range_at : (p : List ℕ) → InRange p → (i : ℕ) → i < 4 → get_or p i 0 < limit_of i
-unfolding limit_of
-range_at p h zero k = h.hours
-range_at p h (suc zero) k = h.minutes
-range_at p h (suc (suc zero)) k = h.seconds
-range_at p h (suc (suc (suc zero))) k = h.last
-range_at p h (suc (suc (suc (suc i)))) k = absurd (omega arith)
-
-limit_most : (i : ℕ) → limit_of i ≤ 60
-unfolding limit_of
-limit_most zero = omega arith
-limit_most (suc i) = omega arith
-
-module _ (p q : List ℕ) (i : ℕ) {over : ℕ} (g : in_range p ≡ true) (h : in_range q ≡ true) (inside : i < 4) (k : over ≤ 1) where
-  pub at_most : {l : ℕ} → l ≡ limit_of i → get_or p i 0 + get_or q i 0 + over < l + l
-  at_most e = rw e (omega (arith, range_at p (range_shows p g) i inside, range_at q (range_shows q h) i inside))
-
-  pub fits : get_or p i 0 + get_or q i 0 + over < 4294967296
-  fits = omega (arith, at_most refl, limit_most i)
-
--- what goes over
-pub no_over : (n l : ℕ) → n < l → 0 ≡ n / l
-no_over n l h = sym (div-eq_of_lt h)
-
-pub one_over : (n l : ℕ) → l ≤ n → n < l + l → 1 ≡ n / l
-one_over n l h k =
-    let e : n ≡ n - l + l * 1 = omega arith in
-    let d : n - l < l = omega arith in
-    let z : 0 < l = omega arith in
-    rw e (sym (add-mul-div_left (n - l) 1 z ∙ rw (div-eq_of_lt d)))
-
-pub taken : (n l c : ℕ) → c ≡ n / l → l * c ≤ n
-taken n l c e = rw e (mul-div-le n l)
+-- 24 hours are over once, or not
+pub over_is : (n : ℕ) (over : Bool) → bool_byte over ≡ n / 60 / 60 / 60 / 24 → over ≡ leb 5184000 n
+over_is n true e = let h : 5184000 ≤ n = omega (arith, e) in sym (le-leb _ _ h)
+over_is n false e = let h : n < 5184000 = omega (arith, e) in sym (lt-leb _ _ h)

@@ -1,5 +1,5 @@
 -- Four places: those in range are the places of their thirds, and of no other number below 24 hours.
-use Prim.Native.Nat.{ℕ, ◌+◌, ◌-◌, ◌*◌, ◌/◌, ◌%◌, ◌<◌}
+use Prim.Native.Nat.{ℕ, ◌+◌, ◌-◌, ◌*◌, ◌/◌, ◌%◌, ◌≤◌, ◌<◌}
 use mathlib.Core.Path.{◌≡◌, refl, sym}
 use mathlib.Core.List.{List, [], ◌∷◌}
 use mathlib.Core.Bool.{true}
@@ -88,3 +88,7 @@ places_magnitude p h =
     let y = x * 60 + get_or p 2 0 in
     simp (digits_div y h.last, digits_mod y h.last, digits_div x h.seconds, digits_mod x h.seconds, digits_div (get_or p 0 0) h.minutes, digits_mod (get_or p 0 0) h.minutes, mod-eq_of_lt h.hours)
     (sym (four p h.places))
+
+-- less the lesser: with the complement c of q, 24 hours go over
+pub less_day : (p q c : ℕ) → c + q ≡ 5183999 → q ≤ p → places_of (p + c + 1) ≡ places_of (p - q)
+less_day p q c k l = let e : p + c + 1 ≡ p - q + 5184000 = omega arith in rw e (places_day (p - q))

@@ -1,15 +1,14 @@
 -- Signed numbers: a number by its sign and size, sums of such, and what an i64 holds.
 use Prim.Native.Nat.{ℕ, zero, suc, ◌+◌, ◌≤◌, ◌<◌}
 use mathlib.Core.Path.{◌≡◌, refl, sym, ap, ◌∙◌}
-use mathlib.Core.Bool.{Bool, true, false, ◌&&◌, not, and-true, true≢false}
+use mathlib.Core.Bool.{Bool, true, false, not, true≢false}
 use native.Mathlib.Omega.{arith}
-use lib.Dec.{T, ltb}
 use lib.IntN.{ℤ, pos, negsuc, neg_ℤ, nat_abs, ◌+ℤ◌, ◌-ℤ◌, +ℤ_idl, neg_ℤ-+ℤ, neg_ℤ-neg_ℤ, +ℤ-neg_ℤ_cancel}
-use lib.Signed.{lt_z, mag, non_neg}
+use lib.Signed.{lt_z, mag}
 use mir.Syntax.{w64}
 use mir.Val.{SFits, to_z, of_z}
 use mir.ValLaws.{to_z-of_z}
-use borrow.Author.Tests.{ltb-true, ltb-false, lt-ltb, le-ltb}
+use borrow.Author.Tests.{ltb-false, le-ltb}
 use Rattle.rate.specs.Rate.{signed}
 
 -- sign and size
@@ -59,15 +58,6 @@ lt_or_eq (pos a) (negsuc b) h k = absurd (true≢false k)
 lt_or_eq (negsuc a) (pos b) h k = absurd (true≢false h)
 lt_or_eq (negsuc a) (negsuc b) h k = ap negsuc (omega (arith, ltb-false b a h, ltb-false a b k))
 
--- below 24 hours, as the code asks it
-pub in_day : (z : ℤ) → (lt_z (negsuc 5183999) z && lt_z z (pos 5184000)) ≡ ltb (nat_abs z) 5184000
-in_day (pos n) = refl
-in_day (negsuc n) = and-true (ltb n 5183999) ∙ go (ltb n 5183999) refl
-  where
-    go : (t : Bool) → ltb n 5183999 ≡ t → t ≡ ltb (suc n) 5184000
-    go true e = sym (lt-ltb (suc n) 5184000 (omega (arith, ltb-true n 5183999 e)))
-    go false e = sym (le-ltb (suc n) 5184000 (omega (arith, ltb-false n 5183999 e)))
-
 -- an i64 that is small enough is held as it is
 
 pub kept : (z : ℤ) → mag z < 9223372036854775808 → to_z w64 (of_z w64 z) ≡ z
@@ -94,13 +84,3 @@ module _ (z : ℤ) (h : nat_abs z < 9223372036854775808) where
 
   pub neg_held : to_z w64 (of_z w64 (pos 0 -ℤ to_z w64 (of_z w64 z))) ≡ neg_ℤ z
   neg_held = to_z-of_z w64 _ neg_fits ∙ neg_is
-
--- what a cast to an unsigned number asks
-
-pub above : (z : ℤ) → lt_z z (pos 0) ≡ false → T (non_neg z)
-above (pos n) h = tt
-above (negsuc n) h = absurd (true≢false h)
-
-pub neg_above : (z : ℤ) → lt_z z (pos 0) ≡ true → T (non_neg (neg_ℤ z))
-neg_above (pos n) h = absurd (omega (arith, ltb-true n 0 h))
-neg_above (negsuc n) h = tt

@@ -1,20 +1,28 @@
--- Sums by signs and places: what the code answers at each exit is what comes of the thirds.
+-- Sums by signs and places: what the code answers at each exit is what comes of the thirds. `placed_thirds` is to be read: nothing cites it.
 use Prim.Native.Nat.{ℕ, ◌+◌, ◌-◌, ◌≤◌, ◌<◌}
 use mathlib.Core.Path.{◌≡◌, refl, sym, ap, ◌∙◌}
 use mathlib.Core.List.{List, [], ◌∷◌}
 use mathlib.Core.Bool.{Bool, beq, true, false, not, true≢false}
 use native.Mathlib.Omega.{arith}
+use lib.Dec.{leb}
 use lib.IntN.{ℤ, pos, nat_abs, ◌+ℤ◌, +ℤ_comm}
 use lib.Signed.{lt_z}
-use borrow.Author.Tests.{lt-ltb, le-ltb}
-use Rattle.rate.specs.declared.Operation.{Operation}
-use Rattle.rate.specs.declared.Operation.TheVariants.{Add, Subtract}
-use Rattle.rate.specs.declared.places.Carried.{Carried}
+use borrow.Author.Tests.{lt-ltb, le-ltb, leb-true, leb-false}
+use Rattle.std.specs.Prelude.{Result, Ok, Err}
+use Rattle.refusal.specs.declared.Refusal.{Refusal}
+use Rattle.refusal.specs.declared.Refusal.TheVariants.{RateRange}
+use Rattle.rate.specs.declared.Rate.{Rate}
 use Rattle.rate.specs.Rate.{signed, places_of, rate_of}
-use Rattle.rate.specs.Answer.{refusal, from_thirds, operation_of}
-use Rattle.rate.specs.Places.{carried, placed, sign_in}
+use Rattle.rate.specs.declared.Operation.TheVariants.{Add, Subtract}
+use Rattle.rate.specs.Answer.{from_thirds, operation_of}
 use Rattle.rate.proofs.Signs.{abs_signed, sign_signed, signed_not, signed_add, signed_take}
-use Rattle.rate.proofs.PlaceLaws.{places_day}
+
+-- a rate by its sign and places
+abbrev pub placed : Bool → List ℕ → Result Rate Refusal
+placed minus p = Ok (record { minus = minus; places = p })
+
+pub as_placed : {r : Rate} {m : Bool} {p : List ℕ} → r.minus ≡ m → r.places ≡ p → ◌≡◌ {A = Result Rate Refusal} (Ok r) (placed m p)
+as_placed e f = λ i. Ok (record { minus = e i; places = f i })
 
 -- places are answered for their thirds; what has a minus is not zero
 
@@ -42,30 +50,18 @@ unlike true true e = absurd (true≢false e)
 
 -- p and q thirds of one sign: their sum is carried through
 
-beyond : (n : ℕ) → ((carried (n + 0)).over ≡ 0 → ⊥) → 5184000 ≤ n
-unfolding carried
-beyond n o = omega arith
-
-inside : (n : ℕ) → (carried (n + 0)).over ≡ 0 → n < 5184000
-unfolding carried
-inside n o = omega arith
-
-module _ (m n : Bool) (p q : ℕ) {s : Carried} (e : beq m n ≡ true) (h : s ≡ carried (p + q + 0)) where
-  over_is : s.over ≡ (carried (p + q + 0)).over
-  over_is = ap (λ (c : Carried). c.over) h
-
-  pub same_over : (s.over ≡ 0 → ⊥) → refusal ≡ from_thirds (signed m p +ℤ signed n q)
+module _ (m n : Bool) (p q : ℕ) (e : beq m n ≡ true) where
+  pub same_over : leb 5184000 (p + q + 0) ≡ true → Err RateRange ≡ from_thirds (signed m p +ℤ signed n q)
   unfolding from_thirds
   same_over o =
-      let k : 5184000 ≤ p + q = beyond (p + q) (λ z. o (over_is ∙ z)) in
+      let k : 5184000 ≤ p + q = omega (arith, leb-true _ _ o) in
       rw (sym (alike m n e), signed_add m p q, abs_signed m (p + q), le-ltb _ _ k)
 
-  pub same_signs : (m ≡ true → 0 < p) → s.over ≡ 0 → placed n s.places ≡ from_thirds (signed m p +ℤ signed n q)
-  unfolding carried
+  pub same_signs : (m ≡ true → 0 < p) → leb 5184000 (p + q + 0) ≡ false → placed m (places_of (p + q + 0)) ≡ from_thirds (signed m p +ℤ signed n q)
   same_signs some o =
-      let k : p + q < 5184000 = inside (p + q) (sym over_is ∙ o) in
+      let k : p + q < 5184000 = omega (arith, leb-false _ _ o) in
       let f : p + q + 0 ≡ p + q = omega arith in
-      rw (h, f, sym (alike m n e), signed_add m p q) (placed_from m (p + q) (λ t. omega (arith, some t)) k)
+      rw (f, sym (alike m n e), signed_add m p q) (placed_from m (p + q) (λ t. omega (arith, some t)) k)
 
 -- of two signs: the lesser is taken from the greater
 
@@ -94,12 +90,6 @@ module _ (m n : Bool) (p q : ℕ) (e : beq m n ≡ false) where
       let z : 0 + q ≡ p = omega arith in
       placed_from false 0 (λ t. absurd (true≢false (sym t))) (omega arith) ∙ ap from_thirds (no_sign m ∙ sym (signed_take m 0 q)) ∙ rw (z, (unlike m n e).0)
 
--- less the lesser: with the complement c of q, 24 hours go over
-pub less_day : (p q c : ℕ) → c + q ≡ 5183999 → q ≤ p → (carried (p + c + 1)).places ≡ places_of (p - q)
-unfolding carried
-less_day p q c k l = let e : p + c + 1 ≡ p - q + 5184000 = omega arith in rw e (places_day (p - q))
-
 -- the second is added with its sign, or with the other one
-pub operation : (o : Operation) (x : ℤ) (m : Bool) (n : ℕ) → x +ℤ signed (sign_in o m) n ≡ operation_of o x (signed m n)
-operation Add x m n = refl
-operation Subtract x m n = rw (signed_not m n)
+pub operation : (x : ℤ) (m : Bool) (n : ℕ) → (x +ℤ signed m n ≡ operation_of Add x (signed m n)) × (x +ℤ signed (not m) n ≡ operation_of Subtract x (signed m n))
+operation x m n = (refl, rw (signed_not m n))

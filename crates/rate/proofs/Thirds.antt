@@ -6,16 +6,21 @@ use native.Mathlib.Omega.{arith}
 use lib.Dec.{eqb}
 use lib.IntN.{ℤ, pos, negsuc, nat_abs}
 use lib.Signed.{lt_z}
+use mathlib.Core.List.{List}
 use borrow.Author.Tests.{le-ltb, ne_eqb}
 use Rattle.buffers.proofs.Laws.{and_both}
 use Rattle.rate.specs.declared.Rate.{Rate}
-use Rattle.rate.specs.Rate.{magnitude, thirds, in_range, is_rate, rate_of}
+use Rattle.rate.specs.Rate.{magnitude, signed, thirds, in_range, is_rate, rate_of}
 use Rattle.rate.proofs.Signs.{abs_signed, sign_signed, signed_abs}
 use Rattle.rate.proofs.PlaceLaws.{InRange, range_shows, places_range, magnitude_below, magnitude_places, places_magnitude}
 
 pub rate_range : (r : Rate) → is_rate r ≡ true → in_range r.places ≡ true
 unfolding is_rate
 rate_range r h = (and_both _ _ h).0
+
+pub thirds_is : (r : Rate) {m : Bool} {p : List ℕ} → m ≡ r.minus → p ≡ r.places → signed m (magnitude p) ≡ thirds r
+unfolding thirds
+thirds_is r e f = rw (e, f)
 
 -- what being a rate shows: what has a minus is not zero
 pub record IsRate (r : Rate) : Type 0 where

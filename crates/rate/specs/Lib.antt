@@ -1,3 +1,2 @@
 pub mod Rate
 pub mod Answer
-pub mod Places

@@ -4,14 +4,14 @@
 mod places;
 mod signed;
 
-ghost use Rattle.std.specs.Prelude.{◌≡◌, true, ◌+ℤ◌};
-ghost use Rattle.std.specs.Int.Signed.{lt_z};
-ghost use Rattle.rate.specs.Rate.{magnitude as magnitude_of, signed as signed_by, thirds as thirds_of, in_range, is_rate};
-ghost use Rattle.rate.specs.Answer.{refusal, from_thirds, operation_of, on_thirds, order_of, to_thirds};
-ghost use Rattle.rate.specs.Places.{placed, sign_in};
+ghost use Rattle.std.specs.Prelude.{◌≡◌};
+ghost use Rattle.rate.specs.Rate.{thirds as thirds_of, is_rate};
+ghost use Rattle.rate.specs.Answer.{from_thirds, operation_of, on_thirds, order_of, to_thirds};
 
-use places::{carry, difference, in_range, magnitude, places_of};
-use signed::{less, size, with_sign, within};
+use places::{in_range, magnitude, places_of};
+use refusal::Refusal;
+use signed::Signed;
+use std::cmp::Ordering;
 
 // Hours, minutes, seconds, thirds, and whether there is a minus before them.
 #[derive(Clone, Copy)]
@@ -20,159 +20,74 @@ pub struct Rate {
     pub places: [u32; 4],
 }
 
-// A refusal's number, or 0, and a rate, zero where refused.
-#[derive(Clone, Copy)]
-pub struct RateAnswer {
-    pub number: u32,
-    pub rate: Rate,
+impl Rate {
+    // Whether it is one: its places are in range, and it is not minus zero.
+    fn is_rate(self) -> bool
+        ensures { result ≡ is_rate self }
+    {
+        let places = self.places;
+        in_range(places) & !(self.minus & (magnitude(places) == 0))
+    }
+
+    fn thirds(self) -> i64
+        ensures { result ≡ thirds_of self }
+    {
+        let n = magnitude(self.places) as i64;
+        if self.minus { -n } else { n }
+    }
 }
 
-// The same of a number of thirds.
-#[derive(Clone, Copy)]
-pub struct ThirdsAnswer {
-    pub number: u32,
-    pub thirds: i64,
-}
-
+// A parameter of one function: with a function each, the compiler leaves what both call out of line.
 #[derive(Clone, Copy)]
 pub enum Operation {
     Add,
     Subtract,
 }
 
-#[derive(Clone, Copy)]
-pub enum Order {
-    Refused,
-    Less,
-    Equal,
-    Greater,
-}
-
-fn is_rate(r: Rate) -> bool
-    ensures { result ≡ is_rate r }
-{
-    let p = r.places;
-    in_range(p) & !(r.minus & (magnitude(p) == 0))
-}
-
-fn whole_thirds(r: Rate) -> i64
-    ensures { result ≡ thirds_of r }
-{
-    let p = r.places;
-    with_sign(r.minus, magnitude(p))
-}
-
-fn refused() -> RateAnswer
-    ensures { result ≡ refusal }
-{
-    RateAnswer {
-        number: 19,
-        rate: Rate {
-            minus: false,
-            places: [0; 4],
-        },
-    }
-}
-
-fn accepted(minus: bool, places: [u32; 4]) -> RateAnswer
-    ensures { result ≡ placed minus places }
-{
-    RateAnswer {
-        number: 0,
-        rate: Rate { minus, places },
-    }
-}
-
-// The sum of a rate and of thirds in places with a sign: of two signs the lesser is taken from the greater.
-fn signed_sum(a: Rate, minus: bool, q: [u32; 4]) -> RateAnswer
-    requires { (is_rate a ≡ true) × (in_range q ≡ true) }
-    ensures { result ≡ from_thirds (thirds_of a +ℤ signed_by minus (magnitude_of q)) }
-{
-    let p = a.places;
-    if a.minus == minus {
-        let s = carry(p, q, 0);
-        if s.over != 0 {
-            return refused();
-        }
-        let places = s.places;
-        return accepted(minus, places);
-    }
-    let x = magnitude(p);
-    let y = magnitude(q);
-    if y < x {
-        return accepted(a.minus, difference(p, q));
-    }
-    if x < y {
-        return accepted(minus, difference(q, p));
-    }
-    accepted(false, [0; 4])
-}
-
-// The sign with which the second rate is added.
-fn sign_in(operation: Operation, minus: bool) -> bool
-    ensures { result ≡ sign_in operation minus }
-{
-    match operation {
-        Operation::Add => minus,
-        Operation::Subtract => !minus,
-    }
-}
+// The thirds of 24 hours.
+const DAY: u64 = 5184000;
 
 // The sum or the difference of two rates.
-pub fn combine(operation: Operation, a: Rate, b: Rate) -> RateAnswer
+pub fn combine(operation: Operation, a: Rate, b: Rate) -> Result<Rate, Refusal>
     ensures { result ≡ on_thirds (operation_of operation) a b }
 {
-    if !(is_rate(a) & is_rate(b)) {
-        return refused();
-    }
-    let q = b.places;
-    signed_sum(a, sign_in(operation, b.minus), q)
-}
-
-fn is_less(a: Rate, b: Rate) -> bool
-    ensures { result ≡ lt_z (thirds_of a) (thirds_of b) }
-{
-    less(whole_thirds(a), whole_thirds(b))
+    let a = Signed::new(a)?;
+    let b = Signed::new(b)?;
+    a.plus(match operation {
+        Operation::Add => b,
+        Operation::Subtract => b.negated(),
+    })
 }
 
 // Whether the first rate is less than the second, equal to it or greater.
-pub fn compare(a: Rate, b: Rate) -> Order
+pub fn compare(a: Rate, b: Rate) -> Result<Ordering, Refusal>
     ensures { result ≡ order_of a b }
 {
-    if !(is_rate(a) & is_rate(b)) {
-        return Order::Refused;
-    }
-    if is_less(a, b) {
-        return Order::Less;
-    }
-    if is_less(b, a) {
-        return Order::Greater;
-    }
-    Order::Equal
+    let a = to_thirds(a)?;
+    let b = to_thirds(b)?;
+    Ok(a.cmp(&b))
 }
 
 // The whole thirds of a rate.
-pub fn to_thirds(r: Rate) -> ThirdsAnswer
+pub fn to_thirds(r: Rate) -> Result<i64, Refusal>
     ensures { result ≡ to_thirds r }
 {
-    if !is_rate(r) {
-        return ThirdsAnswer {
-            number: 19,
-            thirds: 0,
-        };
+    if !r.is_rate() {
+        return Err(Refusal::RateRange);
     }
-    ThirdsAnswer {
-        number: 0,
-        thirds: whole_thirds(r),
-    }
+    Ok(r.thirds())
 }
 
 // The rate of so many thirds.
-pub fn from_thirds(z: i64) -> RateAnswer
+pub fn from_thirds(z: i64) -> Result<Rate, Refusal>
     ensures { result ≡ from_thirds z }
 {
-    if !within(z) {
-        return refused();
+    let n = z.unsigned_abs();
+    if DAY <= n {
+        return Err(Refusal::RateRange);
     }
-    accepted(less(z, 0), places_of(size(z)))
+    Ok(Rate {
+        minus: z < 0,
+        places: places_of(n as u32),
+    })
 }

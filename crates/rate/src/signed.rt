@@ -1,36 +1,74 @@
-// Signed numbers of thirds.
-ghost use Rattle.std.specs.Prelude.{◌≡◌, ◌<◌, nat_abs, ltb};
-ghost use Rattle.std.specs.Int.Signed.{lt_z};
-ghost use Rattle.rate.specs.Rate.{signed};
+// Places with a sign before them.
+ghost use Rattle.std.specs.Prelude.{◌≡◌, ◌+ℤ◌, true, false, not, ◌<◌, MatchResult};
+ghost use Rattle.refusal.specs.declared.Refusal.TheVariants.{RateRange};
+ghost use Rattle.rate.specs.Rate.{is_rate, magnitude as magnitude_of, signed as signed_by};
+ghost use Rattle.rate.specs.Answer.{from_thirds};
 
-// The thirds of 24 hours.
-const END: i64 = 5184000;
+use super::Rate;
+use super::places::{Places, magnitude};
+use refusal::Refusal;
+use std::cmp::Ordering;
 
-pub fn less(x: i64, y: i64) -> bool
-    ensures { result ≡ lt_z x y }
+fn rate(minus: bool, p: Places) -> Rate
+    ensures { (result.minus ≡ minus) × (result.places ≡ p.numbers) }
 {
-    x < y
+    let places = p.numbers;
+    Rate { minus, places }
 }
 
-// Whether a rate can have so many, either way.
-pub fn within(z: i64) -> bool
-    ensures { result ≡ ltb (nat_abs z) 5184000 }
-{
-    less(-END, z) & less(z, END)
+// Minus zero may be one.
+#[derive(Clone, Copy)]
+pub struct Signed {
+    pub minus: bool,
+    pub places: Places,
 }
 
-// Without the sign.
-pub fn size(z: i64) -> u32
-    requires { nat_abs z < 5184000 }
-    ensures { result ≡ nat_abs z }
-{
-    if z < 0 { (0 - z) as u32 } else { z as u32 }
-}
+impl Signed {
+    // What was lent, where it is a rate.
+    pub fn new(rate: Rate) -> Result<Signed, Refusal>
+        ensures { MatchResult result (λ s. (is_rate rate ≡ true) × ((s.minus ≡ rate.minus) × (s.places.numbers ≡ rate.places))) (λ r. (is_rate rate ≡ false) × (r ≡ RateRange)) }
+    {
+        if !rate.is_rate() {
+            return Err(Refusal::RateRange);
+        }
+        let minus = rate.minus;
+        let numbers = rate.places;
+        Ok(Signed {
+            minus,
+            places: Places { numbers },
+        })
+    }
 
-pub fn with_sign(minus: bool, n: u64) -> i64
-    requires { n < 9223372036854775808 }
-    ensures { result ≡ signed minus n }
-{
-    let z = n as i64;
-    if minus { 0 - z } else { z }
+    pub fn negated(self) -> Signed
+        ensures { (result.minus ≡ not self.minus) × (result.places.numbers ≡ self.places.numbers) }
+    {
+        Signed {
+            minus: !self.minus,
+            places: self.places,
+        }
+    }
+
+    // The sum: of two signs the lesser is taken from the greater.
+    pub fn plus(self, other: Signed) -> Result<Rate, Refusal>
+        requires { self.minus ≡ true → 0 < magnitude_of self.places.numbers }
+        ensures { result ≡ from_thirds (signed_by self.minus (magnitude_of self.places.numbers) +ℤ signed_by other.minus (magnitude_of other.places.numbers)) }
+    {
+        let (p, q) = (self.places, other.places);
+        if self.minus == other.minus {
+            let (sum, over) = p.carrying_add(q, false);
+            return if over {
+                Err(Refusal::RateRange)
+            } else {
+                Ok(rate(self.minus, sum))
+            };
+        }
+        match magnitude(p.numbers).cmp(&magnitude(q.numbers)) {
+            Ordering::Less => Ok(rate(other.minus, q.difference(p))),
+            Ordering::Equal => Ok(Rate {
+                minus: false,
+                places: [0; 4],
+            }),
+            Ordering::Greater => Ok(rate(self.minus, p.difference(q))),
+        }
+    }
 }

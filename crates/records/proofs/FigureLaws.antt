@@ -5,7 +5,7 @@ use mathlib.Core.Path.{◌≡◌, refl, sym, ap, ◌∙◌, subst}
 use mathlib.Core.List.{List, [], ◌∷◌}
 use mathlib.Core.Logic.{◌≢◌}
 use mathlib.Core.Bool.{Bool, true, false, cond}
-use mathlib.Core.Option.{Option, none, some}
+use Rattle.std.specs.Prelude.{Option, None, Some, option_map}
 use native.Mathlib.Omega.{arith}
 use borrow.Author.Tests.{eq-eqb, ne_eqb}
 use lib.ListN.{length, get_or, take, drop}
@@ -15,9 +15,7 @@ use Rattle.bank.specs.Record.{Record, record_of, size_of, sizes, live, system_gu
 use Rattle.bank.specs.Totals.{select, live_of}
 use Rattle.records.specs.declared.figures.Figures.{Figures}
 use Rattle.records.specs.View.{prepend, view_records}
-use Rattle.records.specs.Figures.{figures_of, no_figures, figures_by, plus}
-use Rattle.records.specs.Checked.{unsound, checked, records_figures}
-use Rattle.records.proofs.CheckedLaws.{checked_none, checked_same}
+use Rattle.records.specs.Figures.{figures_of, no_figures, figures_by, plus, records_figures}
 use Rattle.records.proofs.RecordSteps.{lent, Further}
 
 figures_are : {a b c d a' b' c' d' : ℕ} → a ≡ a' → b ≡ b' → c ≡ c' → d ≡ d'
@@ -104,23 +102,28 @@ added_below true f r n at end e l b = (
 )
 added_below false f r n at end e l b = (omega (arith, e, b.0), omega (arith, e, b.1), omega (arith, e, b.2), omega (arith, e, b.3))
 
--- the check of one record before others
-checked_more : (f g : List Record → Figures) (r : Record) → ((rs : List Record) → f rs ≡ g (r ∷ rs)) → (o : Option (List Record))
-    → checked f o ≡ checked g (prepend r o)
-unfolding checked prepend
-checked_more f g r h none = refl
-checked_more f g r h (some rs) = ap (λ (y : Figures). record { sound = true; used = y }) (h rs)
+-- the figures of what is viewed, by another function that gives the same
+map_same : {f g : List Record → Figures} → ((rs : List Record) → f rs ≡ g rs) → (o : Option (List Record)) → option_map f o ≡ option_map g o
+map_same h None = refl
+map_same h (Some rs) = ap Some (h rs)
+
+-- of one record before others
+map_more : (f g : List Record → Figures) (r : Record) → ((rs : List Record) → f rs ≡ g (r ∷ rs)) → (o : Option (List Record))
+    → option_map f o ≡ option_map g (prepend r o)
+unfolding prepend
+map_more f g r h None = refl
+map_more f g r h (Some rs) = ap Some (h rs)
 
 -- the check of s up to a place, with the figures f
 pub record Walked (counting : Bool) (s : List ℕ) (at : ℕ) (f : Figures) : Type 0 where
-  pub is : checked (on_top counting f) (view_records (drop at s)) ≡ checked (records_figures counting) (view_records s)
+  pub is : option_map (on_top counting f) (view_records (drop at s)) ≡ option_map (records_figures counting) (view_records s)
   pub small : Below f at
   pub within : at ≤ length s
 
 pub begin : (counting : Bool) (s : List ℕ) (f : Figures) → f ≡ no_figures → Walked counting s 0 f
 begin counting s f e =
     subst (Walked counting s 0) (sym e)
-    record { is = checked_same (top_first counting) (view_records s); small = (omega arith, omega arith, omega arith, omega arith); within = omega arith }
+    record { is = map_same (top_first counting) (view_records s); small = (omega arith, omega arith, omega arith, omega arith); within = omega arith }
 
 module _ {counting : Bool} {s : List ℕ} {at : ℕ} {f : Figures} (k : Walked counting s at f) where
   pub turn : {end : ℕ} → Further s at end → (g : Figures) → g ≡ cond counting (plus f (figures_by (record_of (lent s at)) (end - at))) f → Walked counting s end g
@@ -130,18 +133,16 @@ module _ {counting : Bool} {s : List ℕ} {at : ℕ} {f : Figures} (k : Walked c
       let q : g ≡ cond counting (plus f (figures_by r (size_of r))) f = p ∙ ap (λ (n : ℕ). cond counting (plus f (figures_by r n)) f) m.size in
       let z : at + (end - at) ≡ end = omega (arith, m.more) in
       record {
-        is = ap (λ (x : Figures). checked (on_top counting x) (view_records (drop end s))) q
-            ∙ checked_more (on_top counting (cond counting (plus f (figures_by r (size_of r))) f)) (on_top counting f) r (top_more counting f r) (view_records (drop end s))
-            ∙ ap (checked (on_top counting f)) (sym m.is)
+        is = ap (λ (x : Figures). option_map (on_top counting x) (view_records (drop end s))) q
+            ∙ map_more (on_top counting (cond counting (plus f (figures_by r (size_of r))) f)) (on_top counting f) r (top_more counting f r) (view_records (drop end s))
+            ∙ ap (option_map (on_top counting f)) (sym m.is)
             ∙ k.is;
         small = subst (λ (x : Figures). Below x end) (sym p) (added_below counting f r (end - at) at end z (omega (arith, m.more)) k.small);
         within = m.within;
       }
 
-  pub stopped : view_records (drop at s) ≡ none → unsound ≡ checked (records_figures counting) (view_records s)
-  stopped e = checked_none (on_top counting f) e ∙ k.is
+  pub stopped : view_records (drop at s) ≡ None → None ≡ option_map (records_figures counting) (view_records s)
+  stopped e = ap (option_map (on_top counting f)) (sym e) ∙ k.is
 
-  pub done : view_records (drop at s) ≡ some [] → record { sound = true; used = f } ≡ checked (records_figures counting) (view_records s)
-  unfolding checked
-  done e =
-      ap (λ (x : Figures). record { sound = true; used = x }) (sym (top_none counting f)) ∙ ap (checked (on_top counting f)) (sym e) ∙ k.is
+  pub done : view_records (drop at s) ≡ Some [] → Some f ≡ option_map (records_figures counting) (view_records s)
+  done e = ap Some (sym (top_none counting f)) ∙ ap (option_map (on_top counting f)) (sym e) ∙ k.is

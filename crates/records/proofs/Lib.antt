@@ -2,6 +2,5 @@ pub mod RecordLaws
 pub mod RecordLists
 pub mod RecordSteps
 pub mod RecordWalk
-pub mod CheckedLaws
 pub mod FigureLaws
 pub mod AppendLaws

@@ -3,7 +3,7 @@ use Prim.Native.Nat.{ℕ, zero, suc, ◌+◌, ◌-◌, ◌≤◌, ◌<◌}
 use mathlib.Core.Path.{◌≡◌, refl, sym, ap, ◌∙◌, subst}
 use mathlib.Core.List.{List, [], ◌∷◌, ◌++◌, append_assoc}
 use mathlib.Core.Bool.{Bool, true, false, cond}
-use mathlib.Core.Option.{Option, none, some}
+use Rattle.std.specs.Prelude.{Option, None, Some}
 use native.Mathlib.Omega.{arith}
 use lib.ListN.{length, get_or, set, take, drop, take-append-drop, length-append, length-drop}
 use lib.Seq.{get_or_at, drop_at, set-get_or}
@@ -95,7 +95,7 @@ written_back s b k =
 
 -- the records, one after the other
 
-view_nil : (n : ℕ) → view_turns n [] ≡ some []
+view_nil : (n : ℕ) → view_turns n [] ≡ Some []
 unfolding view_turns
 view_nil zero = refl
 view_nil (suc n) = refl
@@ -110,22 +110,22 @@ view_more (suc f) zero (x ∷ s) p q = absurd (omega arith)
 view_more (suc f) (suc g) (x ∷ s) p q =
     let l = drop (size_at (x ∷ s)) (x ∷ s) in
     let d : length l ≡ suc (length s) - size_at (x ∷ s) = length-drop (size_at (x ∷ s)) (x ∷ s) in
-    ap (λ (o : Option (List Record)). cond (is_record (x ∷ s)) (prepend (record_of (x ∷ s)) o) none) (view_more f g l (omega arith) (omega arith))
+    ap (λ (o : Option (List Record)). cond (is_record (x ∷ s)) (prepend (record_of (x ∷ s)) o) None) (view_more f g l (omega arith) (omega arith))
 
-pub view_end : view_records [] ≡ some []
+pub view_end : view_records [] ≡ Some []
 unfolding view_records view_turns
 view_end = refl
 
 pub view_next : (s : List ℕ) → 0 < length s
-    → view_records s ≡ cond (is_record s) (prepend (record_of s) (view_records (drop (size_at s) s))) none
+    → view_records s ≡ cond (is_record s) (prepend (record_of s) (view_records (drop (size_at s) s))) None
 unfolding view_records view_turns
 view_next [] h = absurd (omega arith)
 view_next (x ∷ s) h =
     let l = drop (size_at (x ∷ s)) (x ∷ s) in
     let d : length l ≡ suc (length s) - size_at (x ∷ s) = length-drop (size_at (x ∷ s)) (x ∷ s) in
-    ap (λ (o : Option (List Record)). cond (is_record (x ∷ s)) (prepend (record_of (x ∷ s)) o) none) (view_more (length s) (length l) l (omega arith) (omega arith))
+    ap (λ (o : Option (List Record)). cond (is_record (x ∷ s)) (prepend (record_of (x ∷ s)) o) None) (view_more (length s) (length l) l (omega arith) (omega arith))
 
-pub view_records_lem : (rs : List Record) → FineRecords rs → view_records (records_bytes rs) ≡ some rs
+pub view_records_lem : (rs : List Record) → FineRecords rs → view_records (records_bytes rs) ≡ Some rs
 unfolding records_bytes prepend
 view_records_lem [] f = view_end
 view_records_lem (r ∷ rs) f =
@@ -139,24 +139,24 @@ view_records_lem (r ∷ rs) f =
 abbrev Back : List ℕ → List Record → Type 0
 Back s rs = (s ≡ records_bytes rs) × FineRecords rs
 
-none_back : (rs : List Record) → ◌≡◌ {A = Option (List Record)} (some []) (some rs) → Back [] rs
+none_back : (rs : List Record) → ◌≡◌ {A = Option (List Record)} (Some []) (Some rs) → Back [] rs
 unfolding records_bytes
 none_back rs e = let q : [] ≡ rs = cc in subst (Back []) q (refl, tt)
 
 one_back : (s : List ℕ) (rs : List Record) (t : Bool) (o : Option (List Record)) → Bytes s → is_record s ≡ t
-    → ((qs : List Record) → o ≡ some qs → Back (drop (size_at s) s) qs)
-    → cond t (prepend (record_of s) o) none ≡ some rs
+    → ((qs : List Record) → o ≡ Some qs → Back (drop (size_at s) s) qs)
+    → cond t (prepend (record_of s) o) None ≡ Some rs
     → Back s rs
 unfolding records_bytes prepend
 one_back s rs false o b p h e = clash cc
-one_back s rs true none b p h e = clash cc
-one_back s rs true (some qs) b p h e =
+one_back s rs true None b p h e = clash cc
+one_back s rs true (Some qs) b p h e =
     let k = strict s p in
     let i = h qs refl in
     let q : record_of s ∷ qs ≡ rs = cc in
     subst (Back s) q (sym (written_back s b k) ∙ ap (λ (l : List ℕ). record_bytes (record_of s) ++ l) i.0, (fine_record s (record_of s) b k.stands, i.1))
 
-turns_back : (n : ℕ) (s : List ℕ) (rs : List Record) → Bytes s → view_turns n s ≡ some rs → Back s rs
+turns_back : (n : ℕ) (s : List ℕ) (rs : List Record) → Bytes s → view_turns n s ≡ Some rs → Back s rs
 unfolding view_turns
 turns_back zero [] rs b e = none_back rs e
 turns_back zero (x ∷ s) rs b e = clash cc
@@ -165,6 +165,6 @@ turns_back (suc n) (x ∷ s) rs b e =
     let l = drop (size_at (x ∷ s)) (x ∷ s) in
     one_back (x ∷ s) rs (is_record (x ∷ s)) (view_turns n l) b refl (λ qs f. turns_back n l qs (below_drop (size_at (x ∷ s)) (x ∷ s) b) f) e
 
-pub records_back : (s : List ℕ) (rs : List Record) → Bytes s → view_records s ≡ some rs → (s ≡ records_bytes rs) × FineRecords rs
+pub records_back : (s : List ℕ) (rs : List Record) → Bytes s → view_records s ≡ Some rs → (s ≡ records_bytes rs) × FineRecords rs
 unfolding view_records
 records_back s rs b e = turns_back (length s) s rs b e

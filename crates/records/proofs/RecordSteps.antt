@@ -4,16 +4,19 @@ use Prim.Native.Nat.{ℕ, ◌+◌, ◌-◌, ◌≤◌, ◌<◌}
 use mathlib.Core.Path.{◌≡◌, refl, sym, ap, ◌∙◌, subst}
 use mathlib.Core.List.{List, [], ◌++◌}
 use mathlib.Core.Bool.{Bool, true, false, ◌&&◌, cond}
-use mathlib.Core.Option.{none, some}
+use Rattle.std.specs.Prelude.{Option, None, Some}
 use native.Mathlib.Omega.{arith}
-use lib.ListN.{length, get_or, set, take, drop, drop_of_length-le, length-drop, length-set}
+use lib.ListN.{length, get_or, set, take, drop, drop_of_length-le, length-drop}
 use lib.Seq.{get_or-drop, drop-drop}
 use borrow.Author.Tests.{eq-eqb, ne_eqb}
+use denote.Enum.Bare.{sameb}
 use Rattle.crc32.specs.Crc32.{crc32_of}
 use Rattle.buffers.specs.Bytes.{eq_bytes}
 use Rattle.buffers.proofs.Laws.{clash, by_test}
 use Rattle.buffers.proofs.LoopSteps.{tail}
+use Rattle.bank.specs.contracts.variable.VarType.{the_type}
 use Rattle.bank.specs.declared.variable.VarType.{VarType}
+use Rattle.bank.specs.declared.variable.VarType.TheVariants.{Common, System}
 use Rattle.bank.specs.declared.variable.VarHeader.{VarHeader}
 use Rattle.bank.specs.Number.{u16_at}
 use Rattle.bank.specs.Answer.{parsed_header}
@@ -22,8 +25,6 @@ use Rattle.bank.specs.WellFormed.{FineRecord}
 use Rattle.bank.proofs.WalkLaws.{stands_size}
 use Rattle.bank.proofs.FieldLaws.{header_long, name_is, value_is, crc_is}
 use Rattle.bank.proofs.RecordBack.{record_of_back}
-use Rattle.records.specs.declared.check.Next.{Next}
-use Rattle.records.specs.declared.check.Next.TheVariants.{Onward, Stop}
 use Rattle.records.specs.Match.{same_type, matches, deleted}
 use Rattle.records.specs.View.{is_record, prepend, view_records}
 use Rattle.records.specs.Records.{next_after, deleted_at}
@@ -38,16 +39,16 @@ module _ (s : List ℕ) (at : ℕ) where
   abbrev x : List ℕ
   x = lent s at
 
-  pub no_next : (Strict x → ⊥) → Stop ≡ next_after at s
+  pub no_next : (Strict x → ⊥) → None ≡ next_after at s
   unfolding next_after
   no_next f =
-      by_test (λ (r : Next). Stop ≡ r) (is_record (drop at s)) (Onward (at + size_at (drop at s))) Stop
+      by_test (λ (r : Option ℕ). None ≡ r) (is_record (drop at s)) (Some (at + size_at (drop at s))) None
       (λ t. absurd (f (subst Strict (sym (tail s at)) (strict (drop at s) t))))
       (λ _. refl)
 
-  next : Strict x → (end : ℕ) → end ≡ at + size_at x → Onward end ≡ next_after at s
+  next : Strict x → (end : ℕ) → end ≡ at + size_at x → Some end ≡ next_after at s
   unfolding next_after
-  next k end e = ap Onward (e ∙ ap (λ (l : List ℕ). at + size_at l) (tail s at)) ∙ rw (is_record_lem (drop at s) (subst Strict (tail s at) k))
+  next k end e = ap Some (e ∙ ap (λ (l : List ℕ). at + size_at l) (tail s at)) ∙ rw (is_record_lem (drop at s) (subst Strict (tail s at) k))
 
   -- in the numbers that the code has: its value begins n bytes further on
   module _ (long : 36 ≤ length x) (h : VarHeader) (e : h ≡ parsed_header x) (n : ℕ) (q : n ≡ 36 + h.name_size + 0) where
@@ -77,21 +78,21 @@ module _ (s : List ℕ) (at : ℕ) where
         let j : n ≡ 36 + name_at x = omega (arith, name_size) in
         rw (i, j, tail s at, drop-drop (36 + name_at (drop at s)) at s)
 
-    pub next_beyond : length s < end → Stop ≡ next_after at s
+    pub next_beyond : length s < end → None ≡ next_after at s
     next_beyond f = no_next (λ k. omega (arith, k.stands.ends, name_size, data_size, room))
 
-    pub next_open : (get_or s (value - 1) 0 ≡ 0 → ⊥) → Stop ≡ next_after at s
+    pub next_open : (get_or s (value - 1) 0 ≡ 0 → ⊥) → None ≡ next_after at s
     next_open f = no_next (λ k. f (closing_is ∙ k.closed))
 
     module _ (sum : ℕ) (summed : sum ≡ crc32_of (take (end - value) (drop value s))) (stored : VarHeader) (read : stored ≡ parsed_header x) where
       sum_is : sum ≡ crc32_of (take (value_at x) (drop (36 + name_at x) x))
       sum_is = summed ∙ ap crc32_of bytes_are
 
-      pub next_spoilt : (stored.crc ≡ sum → ⊥) → Stop ≡ next_after at s
+      pub next_spoilt : (stored.crc ≡ sum → ⊥) → None ≡ next_after at s
       next_spoilt f = no_next (λ k. f (crc_is x long stored read ∙ k.stands.summed ∙ sym sum_is))
 
       pub next_end : u16_at x 0 ≡ 0x55AA → get_or x 3 0 ≡ 0 → 1 ≤ h.name_size → end ≤ length s → get_or s (value - 1) 0 ≡ 0 → stored.crc ≡ sum
-          → Onward end ≡ next_after at s
+          → Some end ≡ next_after at s
       next_end starts reserved named ends closed f =
           next
           record {
@@ -115,11 +116,11 @@ pub size_read : (s : List ℕ) → is_record s ≡ true → (h : VarHeader) → 
 size_read s t h e n size = let l = is_long s t in omega (arith, name_is s l h e, value_is s l h e)
 
 -- the records from a place on
-told_onward : (t : Bool) (n end : ℕ) → Onward end ≡ cond t (Onward n) Stop → (t ≡ true) × (n ≡ end)
+told_onward : (t : Bool) (n end : ℕ) → Some end ≡ cond t (Some n) None → (t ≡ true) × (n ≡ end)
 told_onward true n end e = (refl, cc)
 told_onward false n end e = clash cc
 
-told_stop : (t : Bool) (n : ℕ) → Stop ≡ cond t (Onward n) Stop → t ≡ false
+told_stop : (t : Bool) (n : ℕ) → None ≡ cond t (Some n) None → t ≡ false
 told_stop true n e = clash cc
 told_stop false n e = refl
 
@@ -133,12 +134,12 @@ pub record Further (s : List ℕ) (at end : ℕ) : Type 0 where
 
 module _ (s : List ℕ) (at : ℕ) where
   view_turn : at < length s → (t : Bool) → is_record (drop at s) ≡ t
-      → view_records (drop at s) ≡ cond t (prepend (record_of (drop at s)) (view_records (drop (at + size_at (drop at s)) s))) none
+      → view_records (drop at s) ≡ cond t (prepend (record_of (drop at s)) (view_records (drop (at + size_at (drop at s)) s))) None
   view_turn h t e = rw (← e, ← drop-drop (size_at (drop at s)) at s) (view_next (drop at s) (omega (arith, length-drop at s)))
 
   -- by what the code is told of that record
-  module _ (h : at < length s) (r : Next) (e : r ≡ next_after at s) where
-    pub view_onward : (end : ℕ) → r ≡ Onward end → Further s at end
+  module _ (h : at < length s) (r : Option ℕ) (e : r ≡ next_after at s) where
+    pub view_onward : (end : ℕ) → r ≡ Some end → Further s at end
     unfolding next_after
     view_onward end f =
         let o = told_onward (is_record (drop at s)) (at + size_at (drop at s)) end (sym f ∙ e) in
@@ -152,12 +153,19 @@ module _ (s : List ℕ) (at : ℕ) where
           is = view_turn h true o.0 ∙ ap (λ (i : ℕ). prepend (record_of (drop at s)) (view_records (drop i s))) o.1;
         }
 
-    pub view_stop : r ≡ Stop → view_records (drop at s) ≡ none
+    pub view_stop : r ≡ None → view_records (drop at s) ≡ None
     unfolding next_after
     view_stop f = view_turn h false (told_stop (is_record (drop at s)) (at + size_at (drop at s)) (sym f ∙ e))
 
-  pub view_done : length s ≤ at → view_records (drop at s) ≡ some []
+  pub view_done : length s ≤ at → view_records (drop at s) ≡ Some []
   view_done h = ap view_records (drop_of_length-le s h) ∙ view_end
+
+-- the code's `==` on types
+pub same_is : (a b : VarType) → sameb the_type a b ≡ same_type a b
+same_is Common Common = refl
+same_is Common System = refl
+same_is System Common = refl
+same_is System System = refl
 
 -- the test of a match
 module _ (key : List ℕ) (typ : VarType) (s : List ℕ) where
@@ -201,10 +209,3 @@ module _ (key : List ℕ) (typ : VarType) (s : List ℕ) where
   pub delete_other : matches key typ (record_of s) ≡ false → s ≡ deleted_at key typ s
   unfolding deleted_at
   delete_other m = rw m
-
-  pub length_deleted : length (deleted_at key typ s) ≡ length s
-  unfolding deleted_at
-  length_deleted =
-      by_test (λ (y : List ℕ). length y ≡ length s) (matches key typ (record_of s)) (set s 2 (deleted_state (get_or s 2 0))) s
-      (λ _. length-set s 2 (deleted_state (get_or s 2 0)))
-      (λ _. refl)

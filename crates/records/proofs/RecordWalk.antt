@@ -3,7 +3,7 @@ use Prim.Native.Nat.{ℕ, ◌+◌, ◌-◌, ◌≤◌, ◌<◌}
 use mathlib.Core.Path.{◌≡◌, refl, sym, ap, ap₂, ◌∙◌, subst}
 use mathlib.Core.List.{List, [], ◌∷◌, ◌++◌, append_assoc}
 use mathlib.Core.Bool.{true, false}
-use mathlib.Core.Option.{Option}
+use Rattle.std.specs.Prelude.{Option, None, Some}
 use native.Mathlib.Omega.{arith}
 use lib.ListN.{length, take, drop, length-append, length-drop}
 use lib.Seq.{take_at, drop_at, drop-drop, length-take-le}
@@ -19,11 +19,10 @@ use Rattle.bank.proofs.WalkLaws.{size_pos}
 use Rattle.bank.proofs.LengthLaws.{length_record, length_records}
 use Rattle.bank.proofs.FieldLaws.{name_is, value_is}
 use Rattle.bank.proofs.RecordBack.{record_of_back}
-use Rattle.records.specs.declared.edit.Located.TheVariants.{At, Nothing}
 use Rattle.records.specs.declared.edit.Found.{Found}
 use Rattle.records.specs.Match.{matches, deleted, removed, found_in}
 use Rattle.records.specs.View.{is_record}
-use Rattle.records.specs.Records.{Holds, deleted_at, located}
+use Rattle.records.specs.Records.{Holds, deleted_at}
 use Rattle.records.proofs.RecordLaws.{is_long, record_strict, size_back, name_back, value_back}
 use Rattle.records.proofs.RecordLists.{fine_deleted, size_deleted, fine_removed, sizes_removed}
 use Rattle.records.proofs.RecordSteps.{lent, size_read, deleted_at_lem}
@@ -178,7 +177,7 @@ look {rs = rs} key typ h = record { todo = rs; holds = h; goal = refl }
 pub record Seen (key : List ℕ) (typ : VarType) (w : List ℕ) (at to : ℕ) (o : Option Found) (h : VarHeader) : Type 0 where
   pub test : is_record (lent w at) ≡ true
   pub within : at + (36 + h.name_size + h.data_size) ≤ to
-  pub hit : matches key typ (record_of (lent w at)) ≡ true → (n : ℕ) → n ≡ 36 + h.name_size + 0 → At (record { place = at + n; long = h.data_size }) ≡ located o
+  pub hit : matches key typ (record_of (lent w at)) ≡ true → (n : ℕ) → n ≡ 36 + h.name_size + 0 → Some (record { place = at + n; long = h.data_size }) ≡ o
   pub next : matches key typ (record_of (lent w at)) ≡ false → (n : ℕ) → n ≡ 36 + h.name_size + h.data_size → Look key typ w (at + n) to o
 
 module _ (key : List ℕ) (typ : VarType) (w : List ℕ) (at to : ℕ) (o : Option Found) where
@@ -200,7 +199,7 @@ module _ (key : List ℕ) (typ : VarType) (w : List ℕ) (at to : ℕ) (o : Opti
             λ m n q.
             let t : matches key typ r ≡ true = sym same ∙ m in
             let p : at + n ≡ at + 36 + (length r.key + 1) = omega (arith, k.name) in
-            ap₂ (λ (i j : ℕ). At (record { place = i; long = j })) p (b ∙ k.value) ∙ ap located (rw t at goal);
+            ap₂ (λ (i j : ℕ). Some (record { place = i; long = j })) p (b ∙ k.value) ∙ rw t at goal;
         next =
             λ m n q.
             let t : matches key typ r ≡ false = sym same ∙ m in
@@ -209,9 +208,9 @@ module _ (key : List ℕ) (typ : VarType) (w : List ℕ) (at to : ℕ) (o : Opti
             record { todo = rs; holds = k.rest; goal = ap (λ (i : ℕ). found_in key typ (at + i) rs) k.size ∙ rw t at goal };
       }
 
-  unseen_of : (todo : List Record) → Holds w at to todo → found_in key typ at todo ≡ o → to ≤ at → Nothing ≡ located o
+  unseen_of : (todo : List Record) → Holds w at to todo → found_in key typ at todo ≡ o → to ≤ at → None ≡ o
   unfolding found_in
-  unseen_of [] h goal l = ap located goal
+  unseen_of [] h goal l = goal
   unseen_of (r ∷ rs) h goal l = absurd (none_left w at to r rs h l)
 
 pub see : {key : List ℕ} {typ : VarType} {w : List ℕ} {at to : ℕ} {o : Option Found} → Look key typ w at to o → at < to → (h : VarHeader)
@@ -219,5 +218,5 @@ pub see : {key : List ℕ} {typ : VarType} {w : List ℕ} {at to : ℕ} {o : Opt
     → Seen key typ w at to o h
 see {key} {typ} {w} {at} {to} {o} k l h e = see_of key typ w at to o k.todo k.holds k.goal l h e
 
-pub unseen : {key : List ℕ} {typ : VarType} {w : List ℕ} {at to : ℕ} {o : Option Found} → Look key typ w at to o → to ≤ at → Nothing ≡ located o
+pub unseen : {key : List ℕ} {typ : VarType} {w : List ℕ} {at to : ℕ} {o : Option Found} → Look key typ w at to o → to ≤ at → None ≡ o
 unseen {key} {typ} {w} {at} {to} {o} k l = unseen_of key typ w at to o k.todo k.holds k.goal l

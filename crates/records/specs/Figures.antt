@@ -1,6 +1,6 @@
 -- What records come to: the live ones in sum, by section (01, 'A commit, from the entry down') and all (02, N4), and how many there are, dead
 -- ones too (02, N3). One walk adds the four up, record by record.
-use Rattle.std.specs.Prelude.{ℕ, ◌+◌, cond, List, length}
+use Rattle.std.specs.Prelude.{ℕ, ◌+◌, Bool, cond, List, length}
 use Rattle.bank.specs.Record.{Record, live, sizes, system_guid, common_guid}
 use Rattle.bank.specs.Totals.{select, live_of}
 use Rattle.records.specs.declared.figures.Figures.{Figures}
@@ -34,3 +34,7 @@ figures_by r n =
 unfoldable pub plus : Figures → Figures → Figures
 plus f g =
     record { system = f.system + g.system; common = f.common + g.common; live = f.live + g.live; count = f.count + g.count }
+
+-- what a check of records adds up: their figures, if they are to be counted
+unfoldable pub records_figures : Bool → List Record → Figures
+records_figures counting rs = cond counting (figures_of rs) no_figures

@@ -1,6 +1,5 @@
 -- The records of one key and type: deleted, appended and looked up (01, 'Edits and lookups').
-use Rattle.std.specs.Prelude.{ℕ, ◌+◌, List, [], ◌∷◌, map, Bool, true, false, ◌&&◌, cond, length}
-use Rattle.std.proofs.Math.Option.{Option, none, some}
+use Rattle.std.specs.Prelude.{ℕ, ◌+◌, List, [], ◌∷◌, map, Bool, true, false, ◌&&◌, cond, length, Option, None, Some}
 use Rattle.buffers.specs.Bytes.{eq_bytes}
 use Rattle.bank.specs.declared.variable.VarType.{VarType}
 use Rattle.bank.specs.declared.variable.VarType.TheVariants.{Common, System}
@@ -37,9 +36,9 @@ fresh attributes key value typ = record { state = 0x7F; attributes = attributes;
 
 -- of the first live match the value's place, counted as `at` is, and its length; the records stand from `at` on
 unfoldable pub found_in : List ℕ → VarType → ℕ → List Record → Option Found
-found_in key typ at [] = none
+found_in key typ at [] = None
 found_in key typ at (r ∷ rs) =
-    cond (matches key typ r) (some (record { place = at + 36 + (length r.key + 1); long = length r.value }))
+    cond (matches key typ r) (Some (record { place = at + 36 + (length r.key + 1); long = length r.value }))
     (found_in key typ (at + size_of r) rs)
 
 -- the value of the first live match, empty where there is none

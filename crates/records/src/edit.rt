@@ -2,39 +2,18 @@
 ghost use Rattle.std.specs.Prelude.{◌≡◌, true, List, ◌+◌, ◌≤◌, length};
 ghost use Rattle.buffers.specs.Bytes.{over};
 ghost use Rattle.bank.specs.Record.{Record, record_of, size_at, record_bytes, records_bytes};
-ghost use Rattle.records.specs.Match.{same_type, matches, removed, fresh, found_in};
+ghost use Rattle.records.specs.Match.{matches, removed, fresh, found_in};
 ghost use Rattle.records.specs.View.{is_record};
-ghost use Rattle.records.specs.Records.{Holds, deleted_at, located};
+ghost use Rattle.records.specs.Records.{Holds, deleted_at};
 
 use bank::{VarHeader, VarType, Variable};
+use std::ops::Range;
 
 // A value's place in the work area, and its length.
 #[derive(Clone, Copy)]
 pub struct Found {
     pub place: usize,
     pub long: usize,
-}
-
-// A value, or nothing.
-#[derive(Clone, Copy)]
-pub enum Located {
-    At(Found),
-    Nothing,
-}
-
-fn same_type(a: VarType, b: VarType) -> bool
-    ensures { result ≡ same_type a b }
-{
-    match a {
-        VarType::Common => match b {
-            VarType::Common => true,
-            VarType::System => false,
-        },
-        VarType::System => match b {
-            VarType::Common => false,
-            VarType::System => true,
-        },
-    }
 }
 
 // Whether the record that begins s is live, of this key and of this type.
@@ -50,8 +29,7 @@ fn is_match(s: &[u8], key: &[u8], typ: VarType) -> bool
     if !buffers::same(&s[Variable::HEADER_SIZE..closing], key) {
         return false;
     }
-    let found = Variable::typ(&s[16..32]);
-    same_type(found, typ)
+    Variable::typ(&s[16..32]) == typ
 }
 
 // Marks the record that begins s as deleted if it matches, and answers its size.
@@ -66,39 +44,39 @@ fn delete(s: &mut [u8], key: &[u8], typ: VarType) -> usize
     Variable::size(header.name_size, header.data_size)
 }
 
-// The same for each record from one place of the work area up to another.
-pub fn delete_all(work: &mut [u8], from: usize, to: usize, key: &[u8], typ: VarType)
-    requires { (rs : List Record) × Holds work.old from to rs }
-    ensures { (rs : List Record) → Holds work.old from to rs → work.new ≡ over from (records_bytes (removed key.now typ rs)) work.old }
+// The same for each record of a range of the work area. By hand: a record's size says where the next begins.
+pub fn delete_all(work: &mut [u8], records: Range<usize>, key: &[u8], typ: VarType)
+    requires { (rs : List Record) × Holds work.old records.start records.end rs }
+    ensures { (rs : List Record) → Holds work.old records.start records.end rs → work.new ≡ over records.start (records_bytes (removed key.now typ rs)) work.old }
 {
-    let mut at = from;
-    while at < to {
+    let mut at = records.start;
+    while at < records.end {
         at += delete(&mut work[at..], key, typ);
     }
 }
 
-// The value of the first match from one place of the work area up to another.
-pub fn find(work: &[u8], from: usize, to: usize, key: &[u8], typ: VarType) -> Located
-    requires { (rs : List Record) × Holds work.now from to rs }
-    ensures { (rs : List Record) → Holds work.now from to rs → result ≡ located (found_in key.now typ from rs) }
+// The value of the first match in a range of the work area; by hand, in the same way. Key and type are two arguments everywhere: a struct of both
+// would hold a reference, and each clause would say `name.entry.key.now`.
+pub fn find(work: &[u8], records: Range<usize>, key: &[u8], typ: VarType) -> Option<Found>
+    requires { (rs : List Record) × Holds work.now records.start records.end rs }
+    ensures { (rs : List Record) → Holds work.now records.start records.end rs → result ≡ found_in key.now typ records.start rs }
 {
-    let mut at = from;
-    while at < to {
+    let mut at = records.start;
+    while at < records.end {
         let rest = &work[at..];
         let header = VarHeader::parse(rest);
         if is_match(rest, key, typ) {
-            let found = Found {
+            return Some(Found {
                 place: at + Variable::size(header.name_size, 0),
                 long: header.data_size as usize,
-            };
-            return Located::At(found);
+            });
         }
         at += Variable::size(header.name_size, header.data_size);
     }
-    Located::Nothing
+    None
 }
 
-// Writes a live record over the work area from a place on.
+// Writes a live record over the work area from a place on: of a part of it the clause would say no less, and its caller's more.
 pub fn append(work: &mut [u8], at: usize, attrs: u32, key: &[u8], value: &[u8], typ: VarType)
     requires { (length key.now ≤ 131072) × (length value.now ≤ 131072) × (at + (37 + length key.now + length value.now) ≤ length work.old) }
     ensures { work.new ≡ over at (record_bytes (fresh attrs key.now value.now typ)) work.old }

@@ -5,6 +5,6 @@ mod check;
 mod edit;
 mod figures;
 
-pub use check::{Checked, check_records};
-pub use edit::{Found, Located, append, delete_all, find};
+pub use check::check_records;
+pub use edit::{Found, append, delete_all, find};
 pub use figures::Figures;

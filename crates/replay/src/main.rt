@@ -6,58 +6,46 @@ mod calls;
 mod fields;
 mod run;
 
-ghost use Rattle.std.specs.Prelude.{◌≡◌, length};
-
-use fields::{end, field};
-use run::{FEED, behind, letter, run};
+use fields::field;
+use run::{Walk, letter};
 use score::Score;
 use std::io;
 use streams::read_full;
 
-fn image() -> [u8; 262144]
-    ensures { 262144 ≡ length result }
-{
-    [0; 262144]
-}
-
-fn work() -> [u8; 393216]
-    ensures { 393216 ≡ length result }
-{
-    [0; 393216]
-}
-
-fn report(rt: &impl Print, line: &[u8], right: bool) -> io::Result<()> {
+// How a run that is over came out, if there is one.
+fn end(rt: &impl Print, walk: Option<Walk>, score: Score) -> io::Result<Score> {
+    let Some(Walk { name, right, .. }) = walk else {
+        return Ok(score);
+    };
     if right {
         rt.write_all(b"right ")?;
     } else {
         rt.write_all(b"WRONG ")?;
     }
-    rt.write_all(field(line, 1))?;
-    rt.write_all(b"\n")
+    rt.write_all(name)?;
+    rt.write_all(b"\n")?;
+    Ok(score.add(right))
 }
 
 // Every run of the text; what stands before the first is for the reader.
 fn replay(rt: &impl Print, text: &[u8], image: &mut [u8], work: &mut [u8]) -> io::Result<Score> {
-    let mut score = Score { right: 0, wrong: 0 };
-    let mut at: usize = 0;
-    while at < text.len() {
-        let e = end(text, at, FEED);
-        let line = &text[at..e];
-        at = behind(text, e);
+    let mut score = Score::default();
+    let mut walk: Option<Walk> = None;
+    for line in text.split(|b| *b == b'\n') {
         if letter(line) == b'R' {
-            let ran = run(text, at, image, work);
-            report(rt, line, ran.right)?;
-            score = score.add(ran.right);
-            at = ran.to;
+            score = end(rt, walk, score)?;
+            walk = Some(Walk::new(field(line, 1)));
+        } else if let Some(walk) = &mut walk {
+            walk.step(line, image, work);
         }
     }
-    Ok(score)
+    end(rt, walk, score)
 }
 
 fn main(rt: HostRuntime) -> io::Result<()> {
     let mut text = [0u8; 65536];
-    let mut image = image();
-    let mut work = work();
+    let mut image = [0u8; 262144];
+    let mut work = [0u8; 393216];
     let read = read_full(&mut rt.stdin(), &mut text);
     if let Some(e) = read.error {
         return Err(e);

@@ -1,10 +1,11 @@
--- What a commit asks and leaves, piece by piece: the erase request by the slot's kind, the tallies, the state after a move, and the
+-- What a commit asks and leaves: the erase request by the slot's kind, the tallies, the state after a move, and the
 -- output's front.
 use Prim.Native.Nat.{ℕ, ◌+◌, ◌*◌, ◌-◌, ◌≤◌}
 use mathlib.Core.Path.{◌≡◌, refl, sym, ap, ◌∙◌}
 use mathlib.Core.List.{List, ◌++◌}
 use mathlib.Core.Logic.{◌⊎◌, inl, inr}
-use mathlib.Core.Option.{Option, none, some}
+use Rattle.std.specs.Prelude.{Option, None, Some, is_some}
+use mathlib.Core.Bool.{true, false}
 use native.Mathlib.Omega.{arith}
 use lib.ListN.{length, set, take, drop, length-drop}
 use lib.Seq.{length-take-le}
@@ -20,37 +21,41 @@ use Rattle.nvram.specs.declared.state.Kind.{Kind}
 use Rattle.nvram.specs.declared.state.Kind.TheVariants.{Empty, Invalid, Valid}
 use Rattle.nvram.specs.declared.state.Nvram.{Nvram}
 use Rattle.nvram.specs.Part.{entry, entry_of}
-use Rattle.requests.specs.declared.Erase.{Erase}
-use Rattle.requests.specs.declared.Erase.TheVariants.{Nothing, At}
-use Rattle.requests.specs.Applied.{erase_of, moved_state}
+use Rattle.requests.specs.Applied.{moved_state}
 
 -- the erase request, by the slot's kind
 module _ {x : Kind} (i : ℕ) where
-  pub request_none : x ≡ Empty → (k : Slot) → x ≡ (entry_of k).kind → none ≡ request k i
+  pub request_none : x ≡ Empty → (k : Slot) → x ≡ (entry_of k).kind → None ≡ request k i
   unfolding request entry_of
   request_none e empty p = refl
   request_none e invalid p = clash cc
   request_none e (valid k) p = clash cc
 
-  pub request_some : (x ≡ Invalid) ⊎ (x ≡ Valid) → (k : Slot) → x ≡ (entry_of k).kind → some (i * 65536) ≡ request k i
+  pub request_some : (x ≡ Invalid) ⊎ (x ≡ Valid) → (k : Slot) → x ≡ (entry_of k).kind → Some (i * 65536) ≡ request k i
   unfolding request entry_of bank_size
   request_some (inl e) empty p = clash cc
   request_some (inr e) empty p = clash cc
   request_some e invalid p = refl
   request_some e (valid k) p = refl
 
--- the tallies, by what the code does with an erase request
-module _ (t : Tally) (caller : Caller) {e : Erase} where
-  pub tally_stays : e ≡ Nothing → t ≡ counted (some caller) (erase_of e) t
-  tally_stays h = sym (counted_none (some caller) t) ∙ ap (λ (x : Erase). counted (some caller) (erase_of x) t) (sym h)
+-- the tallies, by whether there is an erase request
+module _ (t : Tally) (caller : Caller) where
+  pub tally_stays : (e : Option ℕ) → is_some e ≡ false → t ≡ counted (Some caller) e t
+  tally_stays None h = sym (counted_none (Some caller) t)
+  tally_stays (Some at) h = cc
 
-  pub tally_more : {offset : ℕ} (t' : Tally) → e ≡ At offset → ((at : ℕ) → t' ≡ counted (some caller) (some at) t) → t' ≡ counted (some caller) (erase_of e) t
-  tally_more {offset = offset} t' h p = p offset ∙ ap (λ (x : Erase). counted (some caller) (erase_of x) t) (sym h)
+  pub tally_more : (e : Option ℕ) (t' : Tally) → is_some e ≡ true → ((at : ℕ) → t' ≡ counted (Some caller) (Some at) t) → t' ≡ counted (Some caller) e t
+  tally_more None t' h p = cc
+  tally_more (Some at) t' h p = p at
 
-pub moved_is : (s : Nvram) (i total size : ℕ) (t : Tally) (caller : Caller) (e : Option ℕ) → t ≡ counted (some caller) e s.tally
-    → record { n = s.n; active = i; tally = t; banks = set s.banks i (entry Valid total size) } ≡ moved_state s i total size caller e
+-- a state x like s but for a tally t, once the bank is put in
+pub moved_is : (s : Nvram) {x : Nvram} {t : Tally} (i total size : ℕ) (caller : Caller) (e : Option ℕ) → x ≡ record { n = s.n; active = s.active; tally = t; banks = s.banks }
+    → t ≡ counted (Some caller) e s.tally
+    → record { n = x.n; active = i; tally = x.tally; banks = set x.banks i (entry Valid total size) } ≡ moved_state s i total size caller e
 unfolding moved_state
-moved_is s i total size t caller e p = λ j. record { n = s.n; active = i; tally = p j; banks = set s.banks i (entry Valid total size) }
+moved_is s i total size caller e p q =
+    (λ j. record { n = (p j).n; active = i; tally = (p j).tally; banks = set (p j).banks i (entry Valid total size) })
+    ∙ (λ j. record { n = s.n; active = i; tally = q j; banks = set s.banks i (entry Valid total size) })
 
 -- n bytes of w from a place on, over the front of an output
 pub front_written : (a n : ℕ) (w o y : List ℕ) → a + n ≤ length w → n ≤ length o → y ≡ onto (take (a + n - a) (drop a w)) o

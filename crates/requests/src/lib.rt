@@ -2,99 +2,75 @@
 #![tactic(auto)]
 
 ghost use Rattle.std.specs.Prelude.{◌≡◌, ◌++◌, ◌+◌, ◌*◌, ◌≤◌, ◌<◌, length, take, drop};
-ghost use Rattle.std.proofs.Math.Option.{some};
-ghost use Rattle.tally.specs.Tally.{counted};
 ghost use Rattle.bank.specs.Bank.{Slot};
 ghost use Rattle.book.specs.Commit.{request as request_of};
-ghost use Rattle.book.specs.Call.{committed};
 ghost use Rattle.nvram.specs.Part.{entry_of};
-ghost use Rattle.requests.specs.Applied.{applied, erase_of, moved_state};
+ghost use Rattle.requests.specs.Applied.{moved_state};
 
 use bank::Partition;
 use nvram::{Entry, Kind, Nvram};
-use tally::{Caller, Tally};
+use refusal::Refusal;
+use tally::Caller;
 
-// Nothing is to be erased, or the bank at an offset.
+// A write's offset in the flash, and how many bytes of the output it is to write.
 #[derive(Clone, Copy)]
-pub enum Erase {
-    Nothing,
-    At(usize),
-}
-
-// A refusal's number, or 0; the erase request; the write's offset and its length in the output; and the state after.
-#[derive(Clone, Copy)]
-pub struct Applied {
-    pub number: u32,
-    pub erase: Erase,
+pub struct Written {
     pub offset: usize,
     pub length: usize,
-    pub state: Nvram,
 }
 
-pub fn refused(state: Nvram, number: u32, erase: Erase) -> Applied
-    ensures { (applied result ≡ committed number (erase_of erase) 0 0) × (result.length ≡ 0) × (result.state ≡ state) }
-{
-    Applied {
-        number,
-        erase,
-        offset: 0,
-        length: 0,
-        state,
-    }
+// The offset of an erase request, and the write or why there is none: a move that is refused afterwards asks for its erase all the same.
+#[derive(Clone, Copy)]
+pub struct Applied {
+    pub erase: Option<usize>,
+    pub written: Result<Written, Refusal>,
 }
 
 // Bank i is to be erased unless its slot is Empty.
-pub fn request(kind: Kind, i: usize) -> Erase
+pub fn request(kind: Kind, i: usize) -> Option<usize>
     requires { i < 16 }
-    ensures { (k : Slot) → kind ≡ (entry_of k).kind → erase_of result ≡ request_of k i }
+    ensures { (k : Slot) → kind ≡ (entry_of k).kind → result ≡ request_of k i }
 {
     match kind {
-        Kind::Empty => Erase::Nothing,
-        Kind::Invalid => Erase::At(i * Partition::SIZE),
-        Kind::Valid => Erase::At(i * Partition::SIZE),
+        Kind::Empty => None,
+        Kind::Invalid | Kind::Valid => Some(i * Partition::SIZE),
     }
 }
 
-// The tallies after a commit of this caller.
-fn count(tally: Tally, caller: Caller, erase: Erase) -> Tally
-    ensures { result ≡ counted (some caller) (erase_of erase) tally }
-{
-    match erase {
-        Erase::Nothing => tally,
-        Erase::At(_) => tally.count(caller),
-    }
-}
-
-// The state with a bank of this total and size in slot i, which becomes active; the erase request counts for the caller.
-pub fn moved(state: Nvram, i: usize, total: usize, size: u32, caller: Caller, erase: Erase) -> Nvram
+// A bank of this total and size in slot i, which becomes active; the erase request counts for the caller.
+pub fn moved(
+    state: &mut Nvram,
+    i: usize,
+    total: usize,
+    size: u32,
+    caller: Caller,
+    erase: Option<usize>,
+)
     requires { (i < 16) × (total ≤ 131072) }
-    ensures { result ≡ moved_state state i total size caller (erase_of erase) }
+    ensures { state.new ≡ moved_state state.old i total size caller erase }
 {
-    let mut next = state;
-    next.active = i as u32;
-    next.tally = count(state.tally, caller, erase);
-    next.banks[i] = Entry {
+    if erase.is_some() {
+        state.tally = state.tally.count(caller);
+    }
+    state.active = i as u32;
+    state.banks[i] = Entry {
         kind: Kind::Valid,
         total: total as u32,
         usable: size,
     };
-    next
 }
 
-// The active bank's first bytes, as many as its size, to the output.
-pub fn write(state: Nvram, work: &[u8], output: &mut [u8], size: usize, erase: Erase) -> Applied
-    requires { (state.active < 16) × (size ≤ 65536) × (state.active * 131072 + 131072 ≤ length work.now) × (65536 ≤ length output.old) }
-    ensures { (applied result ≡ committed 0 (erase_of erase) (state.active * 65536) size) × (result.length ≡ size) × (result.state ≡ state) × (output.new ≡ take size (drop (state.active * 131072) work.now) ++ drop size output.old) }
+// The first bytes of bank i, as many as its size, to the output, which may be longer than a bank and so is no array.
+pub fn write(i: usize, work: &[u8], output: &mut [u8], size: usize) -> Written
+    requires { (i < 16) × (size ≤ 65536) × (i * 131072 + 131072 ≤ length work.now) × (65536 ≤ length output.old) }
+    ensures { (result.offset ≡ i * 65536) × (result.length ≡ size) × (output.new ≡ take size (drop (i * 131072) work.now) ++ drop size output.old) }
 {
-    let i = state.active as usize;
     let part = i * Nvram::PART_SIZE;
     let end = part + size;
+    // copy_from_slice would call memmove, and the library calls memcpy and memset alone.
     buffers::copy(&work[part..end], output);
-    Applied {
-        number: 0,
-        erase,
+    Written {
         offset: i * Partition::SIZE,
         length: size,
-        state,
     }
 }

@@ -2,7 +2,7 @@
 use Prim.Native.Nat.{ℕ, ◌+◌, ◌<◌}
 use native.Mathlib.Omega.{arith}
 use mathlib.Core.Path.{◌≡◌, refl, sym, ap, ◌∙◌, subst}
-use mathlib.Core.Option.{Option, some}
+use Rattle.std.specs.Prelude.{Option, Some}
 use mathlib.Core.List.{List, [], ◌∷◌, ◌++◌}
 use Rattle.crc32.specs.Crc32.{Bytes}
 use Rattle.bank.specs.Bank.{Bank, valid}
@@ -94,7 +94,7 @@ pub record At (b : Book) (p : Page) : Type 0 where
   pub answer : p.event.answer ≡ (step b p.event.call).answer
   pub out : p.event.out ≡ (step b p.event.call).out
   pub follows : Follows p.event.call (number (step b p.event.call).answer)
-  pub viewed : view p.event.state p.event.work ≡ some p.after
+  pub viewed : view p.event.state p.event.work ≡ Some p.after
 
 -- the flash after a page, and the erase requests
 abbrev pub flash_of : List ℕ → Page → List ℕ
@@ -125,7 +125,7 @@ Along b₀ f b m (p ∷ ps) = State b₀ f b m × At b p × Along b₀ (flash_of
 
 -- a premise about each call, given the flash before it, by which the state follows the book
 module _ (Premise : List ℕ → Page → Type 0) (enough : (f : List ℕ) (p : Page) → Premise f p → Follows p.event.call (number p.event.answer)) where
-  along : (b₀ : Book) (f : List ℕ) (b : Book) (m : ℕ) (s : Nvram) (w : List ℕ) (es : List Event) → State b₀ f b m → view s w ≡ some b → Run s w es
+  along : (b₀ : Book) (f : List ℕ) (b : Book) (m : ℕ) (s : Nvram) (w : List ℕ) (es : List Event) → State b₀ f b m → view s w ≡ Some b → Run s w es
       → Each (pages b es) (λ earlier p. Premise (flash_after f earlier) p)
       → Along b₀ f b m (pages b es)
   unfolding pages flash_after
@@ -145,7 +145,7 @@ module _ (Premise : List ℕ → Page → Type 0) (enough : (f : List ℕ) (p : 
         answer = k.answer;
         out = k.out;
         follows = h;
-        viewed = k.viewed ∙ ap some same;
+        viewed = k.viewed ∙ ap Some same;
       } in
       let rest = along b₀ (flash_of f p) p.after (m + asks p) e.state e.work es (turned b₀ f b m x p a) a.viewed r.2 (each_rest p ps _ n) in
       (x, a, rest)

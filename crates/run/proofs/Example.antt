@@ -5,7 +5,7 @@ use Prim.Native.Nat.{ℕ, ◌+◌, ◌-◌, ◌*◌, ◌/◌, ◌≤◌, ◌<◌
 use mathlib.Core.Path.{◌≡◌, refl, sym, ap, ap₂, ◌∙◌, subst}
 use mathlib.Core.Bool.{Bool, false}
 use mathlib.Core.List.{List, [], ◌∷◌, ◌++◌}
-use mathlib.Core.Option.{none, some}
+use Rattle.std.specs.Prelude.{None, Some}
 use native.Mathlib.Omega.{arith}
 use native.Mathlib.Nat.{div_self}
 use lib.ListN.{length, replicate, length-append, length-replicate}
@@ -151,8 +151,8 @@ pub record Twice (counts : ℕ → Bool) (b : Book) (es : List Event) : Type 0 w
   pub second : Page
   pub later : List Page
   pub parts : pages b es ≡ earlier ++ (first ∷ (between ++ (second ∷ later)))
-  pub commits : first.event.answer ≡ committed 0 (some 0) 0 100
-  pub again : erase second.event.answer ≡ some 0
+  pub commits : first.event.answer ≡ committed 0 (Some 0) 0 100
+  pub again : erase second.event.answer ≡ Some 0
   pub within : most_live counts (first ∷ between) ≤ active_size b
   -- what comes right behind the first is a barrel insert, and nothing else is inserted between them
   pub next : Page
@@ -166,9 +166,9 @@ pub record Twice (counts : ℕ → Bool) (b : Book) (es : List Event) : Type 0 w
   -- one request is the clock's, the other the barrel's
   pub one : Caller
   pub other : Caller
-  pub first_by : committer first.event.call ≡ some one
-  pub second_by : committer second.event.call ≡ some other
-  pub apart : is_own one (some other) ≡ false
+  pub first_by : committer first.event.call ≡ Some one
+  pub second_by : committer second.event.call ≡ Some other
+  pub apart : is_own one (Some other) ≡ false
 
 -- and between them a careful commit that is refused by 12; with it L would be over S
 pub record Despite12 (b : Book) (es : List Event) : Type 0 where
@@ -177,7 +177,7 @@ pub record Despite12 (b : Book) (es : List Event) : Type 0 where
   pub refused : Page
   pub behind : List Page
   pub parts : twice.between ≡ before ++ (refused ∷ behind)
-  pub answer : refused.event.answer ≡ committed 12 none 0 0
+  pub answer : refused.event.answer ≡ committed 12 None 0 0
   pub over : active_size b < most_live all_commits (twice.first ∷ twice.between)
 
 module _ (f : List ℕ) (s : Nvram) (w : List ℕ) where
@@ -316,8 +316,8 @@ figures n S L bytes p q l h =
 pub two_banks : (image : List ℕ) (counts : ℕ → Bool) (ps : List Page) → Demand3 image counts ps → (opened_book image).n ≡ 2 → active_size (opened_book image) ≡ 65536
     → (earlier : List Page) (first : Page) (between : List Page) (second : Page) (later : List Page) (offset : ℕ)
     → ps ≡ earlier ++ (first ∷ (between ++ (second ∷ later)))
-    → erase first.event.answer ≡ some offset
-    → erase second.event.answer ≡ some offset
+    → erase first.event.answer ≡ Some offset
+    → erase second.event.answer ≡ Some offset
     → most_live counts (first ∷ between) ≤ 8192
     → 114690 ≤ inserted_bytes between
 two_banks image counts ps d n S earlier first between second later offset h x y l =

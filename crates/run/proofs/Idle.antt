@@ -2,7 +2,7 @@
 use Prim.Native.Nat.{ℕ, zero, suc}
 use mathlib.Core.Path.{◌≡◌, refl, sym, subst}
 use mathlib.Core.Logic.{◌≢◌}
-use mathlib.Core.Option.{Option, none, some}
+use Rattle.std.specs.Prelude.{Option, None, Some}
 use mathlib.Core.List.{List}
 use Rattle.buffers.proofs.Laws.{clash}
 use Rattle.book.specs.Call.{Call, edit, lookup, fetch, figures, commit, whole_image, Answer, edited, looked, handed, summed, committed, joined, erase, refusal}
@@ -15,7 +15,7 @@ Idle (looked k f) = Unit {0}
 Idle handed = Unit {0}
 Idle (summed k f) = Unit {0}
 Idle (committed zero e offset long) = ⊥
-Idle (committed (suc k) e offset long) = e ≡ none
+Idle (committed (suc k) e offset long) = e ≡ None
 Idle (joined k long) = Unit {0}
 
 pub idle_refusal : (c : Call) (k : ℕ) → k ≢ 0 → Idle (refusal c k)
@@ -37,7 +37,7 @@ idle_read (whole_image room) a r = subst Idle (sym r.1) tt
 
 -- no erase is requested then, nothing is done to the flash, and it is no accepted commit
 
-pub idle_quiet : (a : Answer) → Idle a → erase a ≡ none
+pub idle_quiet : (a : Answer) → Idle a → erase a ≡ None
 idle_quiet (edited k) i = refl
 idle_quiet (looked k f) i = refl
 idle_quiet handed i = refl
@@ -58,5 +58,5 @@ idle_flash (joined k long) i x flash = refl
 pub no_commit : {a : Answer} {e : Option ℕ} {offset long : ℕ} → Idle a → a ≡ committed 0 e offset long → ⊥
 no_commit i q = subst Idle q i
 
-pub no_request : (a : Answer) {offset : ℕ} → Idle a → erase a ≡ some offset → ⊥
+pub no_request : (a : Answer) {offset : ℕ} → Idle a → erase a ≡ Some offset → ⊥
 no_request a i q = clash (cc (q, idle_quiet a i))

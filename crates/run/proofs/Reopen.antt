@@ -3,7 +3,7 @@ use Prim.Native.Nat.{ℕ, ◌*◌, ◌+◌, ◌≤◌, ◌<◌}
 use native.Mathlib.Omega.{arith}
 use native.Mathlib.Nat.{mul-le-mul_right, one-mul}
 use mathlib.Core.Path.{◌≡◌, refl, sym, ap, ap₂, ◌∙◌, subst}
-use mathlib.Core.Option.{Option, some}
+use Rattle.std.specs.Prelude.{Option, Some}
 use mathlib.Core.List.{List}
 use lib.ListN.{length, get_or}
 use borrow.Author.Tests.{le-ltb, lt-leb}
@@ -47,16 +47,16 @@ module _ (b b' : Book) (k k' : Bank) (e : active_slot b ≡ valid k) (e' : activ
       ∙ sym (ap (λ (o : Outcome). o.out) (by_valid b' (fetch key typ) (fetch_bank b' key typ) k' e'))
 
 -- what a call answers on a state and a work area that hold a book
-on_answer : (c : Call) (s : Nvram) (w : List ℕ) (b : Book) → view s w ≡ some b → (call c s w).answer ≡ (step b c).answer
+on_answer : (c : Call) (s : Nvram) (w : List ℕ) (b : Book) → view s w ≡ Some b → (call c s w).answer ≡ (step b c).answer
 unfolding call on_book
 on_answer c s w b v = ap (λ (o : Option Book). (on_book o c s w).answer) v
 
-on_out : (c : Call) (s : Nvram) (w : List ℕ) (b : Book) → view s w ≡ some b → (call c s w).out ≡ (step b c).out
+on_out : (c : Call) (s : Nvram) (w : List ℕ) (b : Book) → view s w ≡ Some b → (call c s w).out ≡ (step b c).out
 unfolding call on_book
 on_out c s w b v = ap (λ (o : Option Book). (on_book o c s w).out) v
 
 -- what an opening leaves holds the opened book
-begun_view : (o : Opened) (work : List ℕ) (b : Book) → FineBook b → o ≡ opened b → view (begun o work).state (begun o work).work ≡ some b
+begun_view : (o : Opened) (work : List ℕ) (b : Book) → FineBook b → o ≡ opened b → view (begun o work).state (begun o work).work ≡ Some b
 unfolding begun
 begun_view o work b f e = ap (λ (x : Opened). view (begun x work).state (begun x work).work) e ∙ view_lay b no_tally work f
 
@@ -108,11 +108,11 @@ module _ (f : List ℕ) (b : Book) (s : UpToDate f b) where
 
   -- what the reopening leaves holds its book
   holds : (work : List ℕ) → b.n * part_size ≤ length work
-      → view (begun (opening f (length work)) work).state (begun (opening f (length work)) work).work ≡ some book
+      → view (begun (opening f (length work)) work).state (begun (opening f (length work)) work).work ≡ Some book
   holds work long =
       begun_view (opening f (length work)) work book (open_fine f (length work) book s.base.bytes (accepts (length work) long)) (accepts (length work) long)
 
-pub reopens : (f : List ℕ) (p : Page) → UpToDate f p.after → view p.event.state p.event.work ≡ some p.after → Reopens f p
+pub reopens : (f : List ℕ) (p : Page) → UpToDate f p.after → view p.event.state p.event.work ≡ Some p.after → Reopens f p
 reopens f p s v =
     let b = p.after in
     let x = s.fixed in

@@ -3,7 +3,7 @@ use Prim.Native.Nat.{ℕ}
 use mathlib.Core.Path.{◌≡◌, refl, sym, ap, ◌∙◌, subst}
 use mathlib.Core.List.{List, [], ◌∷◌}
 use mathlib.Core.Bool.{false}
-use mathlib.Core.Option.{some}
+use Rattle.std.specs.Prelude.{Some}
 use Rattle.book.specs.Book.{Book, FineBook}
 use Rattle.book.specs.Call.{Call, ByteCall, Answer, number, step, is_old, Follows}
 use Rattle.book.proofs.StepLaws.{step_fine, settled, not_old}
@@ -44,7 +44,7 @@ run_of s w (c ∷ cs) y =
     (y.0, record { answer = refl; out = refl; state = refl; work = refl }, run_of (call c s w).state (call c s w).work cs y.1)
 
 -- no old commit of it is refused by 12 where the book refuses none so
-pub follows_of : (b : Book) (s : Nvram) (w : List ℕ) (cs : List Call) → FineBook b → view s w ≡ some b → ByteCalls cs → No12 b cs
+pub follows_of : (b : Book) (s : Nvram) (w : List ℕ) (cs : List Call) → FineBook b → view s w ≡ Some b → ByteCalls cs → No12 b cs
     → Kept Follows (pages b (events_of s w cs))
 unfolding events_of No12 pages
 follows_of b s w [] f v y n = each_none _
@@ -53,7 +53,7 @@ follows_of b s w (c ∷ cs) f v y n =
     let k = keeps c s w b a.answer a.out a.state a.work y.0 f v (record { answer = refl; out = refl; state = refl; work = refl }) in
     let same : (step b c).laid ≡ (step b c).after = settled b c n.0 in
     each_more _ _ _ (subst (λ (x : Answer). Follows c (number x)) (sym k.answer) n.0)
-    (follows_of (step b c).after a.state a.work cs (subst FineBook same (step_fine b c y.0 f)) (k.viewed ∙ ap some same) y.1 n.1)
+    (follows_of (step b c).after a.state a.work cs (subst FineBook same (step_fine b c y.0 f)) (k.viewed ∙ ap Some same) y.1 n.1)
 
 -- which it is where all commits are careful
 pub careful_no12 : (b : Book) (cs : List Call) → AllCareful cs → No12 b cs

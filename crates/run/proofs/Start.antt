@@ -2,7 +2,7 @@
 use Prim.Native.Nat.{ℕ, ◌*◌, ◌<◌}
 use mathlib.Core.Path.{◌≡◌, refl, ap, ◌∙◌}
 use mathlib.Core.List.{List}
-use mathlib.Core.Option.{some}
+use Rattle.std.specs.Prelude.{Some}
 use native.Mathlib.Omega.{arith}
 use lib.Dec.{leb, ltb}
 use lib.ListN.{length}
@@ -36,7 +36,7 @@ pub record Starts (image work : List ℕ) (s : Nvram) (w : List ℕ) : Type 0 wh
   pub opens : opening image (length work) ≡ opened (opened_book image)
   pub fine : FineBook (opened_book image)
   pub most : length image < 17 * bank_size
-  pub viewed : view s w ≡ some (opened_book image)
+  pub viewed : view s w ≡ Some (opened_book image)
   pub tally : s.tally ≡ no_tally
 
 pub starts : (image work : List ℕ) (s : Nvram) (w : List ℕ) → Opens image work s w → Starts image work s w

@@ -3,7 +3,7 @@
 use Prim.Native.Nat.{ℕ, ◌+◌}
 use native.Mathlib.Omega.{arith}
 use mathlib.Core.Path.{◌≡◌, refl, sym, ap, ap₂, ◌∙◌, subst}
-use mathlib.Core.Option.{Option, none, some}
+use Rattle.std.specs.Prelude.{Option, None, Some}
 use mathlib.Core.List.{List, [], ◌∷◌, ◌++◌, append_assoc}
 use mathlib.Core.Bool.{Bool, true, false, cond}
 use Rattle.tally.specs.declared.Caller.{Caller}
@@ -32,19 +32,19 @@ use Rattle.run.proofs.Start.{starts}
 abbrev Shared : Option Caller → Option ℕ → Type 0
 Shared o e = requested e ≡ cond (is_own Clock o) (requested e) 0 + cond (is_own Barrel o) (requested e) 0
 
-commit_shared : (caller : Caller) (e : Option ℕ) → Shared (some caller) e
+commit_shared : (caller : Caller) (e : Option ℕ) → Shared (Some caller) e
 commit_shared Clock e = omega arith
 commit_shared Barrel e = omega arith
 
-quiet_shared : (o : Option Caller) (e : Option ℕ) → e ≡ none → Shared o e
-quiet_shared none e h = ap requested h
-quiet_shared (some caller) e h = commit_shared caller e
+quiet_shared : (o : Option Caller) (e : Option ℕ) → e ≡ None → Shared o e
+quiet_shared None e h = ap requested h
+quiet_shared (Some caller) e h = commit_shared caller e
 
 did_shared : (b : Book) (c : Call) (o : Outcome) → Did b c o → Shared (committer c) (erase o.answer)
 did_shared b c o (refuses k n) = quiet_shared (committer c) _ (refusal_asks c k)
 did_shared b c o (reads a x r) = quiet_shared (committer c) _ (idle_quiet a (idle_read c a r))
 did_shared b c o (edits e d) = refl
-did_shared b c o (writes way caller room d) = commit_shared caller none
+did_shared b c o (writes way caller room d) = commit_shared caller None
 did_shared b c o (moves way caller room d l) = commit_shared caller (request (next_slot b) (next_bank b))
 did_shared b c o (overflows caller room d l) = commit_shared caller (request (next_slot b) (next_bank b))
 
@@ -53,8 +53,8 @@ unfolding call on_book
 does_shared c s w a x s' w' d = subst (λ (y : Answer). Shared (committer c) (erase y)) (sym d.answer) (go (view s w))
   where
     go : (o : Option Book) → Shared (committer c) (erase (on_book o c s w).answer)
-    go none = quiet_shared (committer c) _ (refusal_asks c 6)
-    go (some b) = did_shared b c (step b c) (did b c)
+    go None = quiet_shared (committer c) _ (refusal_asks c 6)
+    go (Some b) = did_shared b c (step b c) (did b c)
 
 -- a page: the tallies before it are t
 record Tallied (t : Tally) (p : Page) : Type 0 where
@@ -80,8 +80,8 @@ all_tallied b s w (e ∷ es) r = (
 
 counted_is : (own : Bool) (e : Option ℕ) (t k : ℕ) → t ≡ stopped k → counted_if own e t ≡ stopped (k + cond own (requested e) 0)
 counted_is false e t k h = omega arith
-counted_is true none t k h = omega arith
-counted_is true (some offset) t k h = omega arith
+counted_is true None t k h = omega arith
+counted_is true (Some offset) t k h = omega arith
 
 none_counted : (caller : Caller) → tally_of caller no_tally ≡ stopped 0
 none_counted Clock = refl

@@ -5,7 +5,7 @@ use Prim.Native.Nat.{ℕ, zero, suc, ◌+◌, ◌*◌, ◌/◌, ◌≤◌, ◌<�
 use native.Mathlib.Omega.{arith}
 use native.Mathlib.Nat.{div-add-mod', mul-le-mul_right, le_trans}
 use mathlib.Core.Path.{◌≡◌, refl, sym, ap, ◌∙◌, subst}
-use mathlib.Core.Option.{some}
+use Rattle.std.specs.Prelude.{Some}
 use mathlib.Core.Bool.{Bool, true, false, cond}
 use mathlib.Core.List.{List, [], ◌∷◌, ◌++◌}
 use borrow.Author.Tests.{eq-eqb}
@@ -159,13 +159,13 @@ record Asked (b : Book) (c : Call) (o : Outcome) (offset : ℕ) : Type 0 where
   live : live_at b c ≡ live_total due.bank
   next : next_bank b * bank_size ≡ offset
 
-asked_slot : (s : Slot) (i o : ℕ) → request s i ≡ some o → i * bank_size ≡ o
+asked_slot : (s : Slot) (i o : ℕ) → request s i ≡ Some o → i * bank_size ≡ o
 unfolding request
 asked_slot empty i o h = cc
 asked_slot invalid i o h = cc
 asked_slot (valid k) i o h = cc
 
-asked : (b : Book) (c : Call) (o : Outcome) (k : ℕ) → Follows c (number o.answer) → erase o.answer ≡ some k → Did b c o → Asked b c o k
+asked : (b : Book) (c : Call) (o : Outcome) (k : ℕ) → Follows c (number o.answer) → erase o.answer ≡ Some k → Did b c o → Asked b c o k
 asked b c o k h q (refuses n x) = absurd (no_request (refusal c n) (idle_refusal c n x.not_0) q)
 asked b c o k h q (reads a x r) = absurd (no_request a (idle_read c a r) q)
 asked b c o k h q (edits e d) = absurd (no_request (edited 0) tt q)
@@ -174,7 +174,7 @@ asked b c o k h q (moves way caller room d l) =
     record { due = d; accepted = refl; becomes = refl; live = rw d.was; next = asked_slot (next_slot b) (next_bank b) k q }
 asked b c o k h q (overflows caller room d l) = absurd (h refl refl)
 
-asked_page : (b : Book) (p : Page) (k : ℕ) → At b p → erase p.event.answer ≡ some k → Asked b p.event.call (step b p.event.call) k
+asked_page : (b : Book) (p : Page) (k : ℕ) → At b p → erase p.event.answer ≡ Some k → Asked b p.event.call (step b p.event.call) k
 asked_page b p k a q =
     asked b p.event.call (step b p.event.call) k a.follows (sym (ap erase a.answer) ∙ q) (did b p.event.call)
 
@@ -207,8 +207,8 @@ two_moves b f k b₁ b₂ k₂ D L bytes q d l f₂ w at due same =
 
 -- between two pages of a run
 module _ (b₀ : Book) (f : List ℕ) (b : Book) (m : ℕ) (first : Page) (between : List Page) (second : Page) (later : List Page) (offset : ℕ)
-    (a : Along b₀ f b m (first ∷ (between ++ (second ∷ later)))) (x : erase first.event.answer ≡ some offset)
-    (y : erase second.event.answer ≡ some offset) where
+    (a : Along b₀ f b m (first ∷ (between ++ (second ∷ later)))) (x : erase first.event.answer ≡ Some offset)
+    (y : erase second.event.answer ≡ Some offset) where
   abbrev S : ℕ
   S = active_size b₀
 

@@ -1,7 +1,6 @@
 -- Demand 3, of a run's pages, in the order of 01 ('A run, its book and the flash'), with 02's tallies (N7); of which runs it is claimed, and over which
 -- commits L is taken: by 01, and by 02 (N4); the tallies are claimed of every run. The proof that they meet it is proofs/Demand.antt.
-use Rattle.std.specs.Prelude.{ℕ, ◌+◌, ◌-◌, ◌*◌, ◌≤◌, ◌<◌, ◌≡◌, ◌≢◌, List, [], ◌∷◌, ◌++◌, Bool, false, length}
-use Rattle.std.proofs.Math.Option.{Option, some}
+use Rattle.std.specs.Prelude.{ℕ, ◌+◌, ◌-◌, ◌*◌, ◌≤◌, ◌<◌, ◌≡◌, ◌≢◌, List, [], ◌∷◌, ◌++◌, Bool, false, length, Option, Some}
 use Rattle.tally.specs.declared.Caller.{Caller}
 use Rattle.tally.specs.Tally.{stopped, is_own, tally_of, total_of}
 use Rattle.bank.specs.declared.variable.VarType.{VarType}
@@ -75,8 +74,8 @@ module _ (image : List ℕ) (counts : ℕ → Bool) where
     -- between two erase requests for the same bank, n × (S − L + 1) bytes are inserted at least; nothing is asked where L > S
     pub wear : (earlier : List Page) (first : Page) (between : List Page) (second : Page) (later : List Page) (offset : ℕ)
         → ps ≡ earlier ++ (first ∷ (between ++ (second ∷ later)))
-        → erase first.event.answer ≡ some offset
-        → erase second.event.answer ≡ some offset
+        → erase first.event.answer ≡ Some offset
+        → erase second.event.answer ≡ Some offset
         → (let L = most_live counts (first ∷ between) in L ≤ S → n * (S - L + 1) ≤ inserted_bytes between)
     -- after every accepted commit from the first erase request on, the flash reopens to the book
     pub reopening : Each ps (λ earlier p.

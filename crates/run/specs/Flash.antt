@@ -1,6 +1,5 @@
 -- The flash (01, 'A run, its book and the flash'): bytes of which an erase sets all bits and a write only clears some.
-use Rattle.std.specs.Prelude.{ℕ, zero, suc, List, [], ◌∷◌, length, take, drop, replicate}
-use Rattle.std.proofs.Math.Option.{Option, none, some}
+use Rattle.std.specs.Prelude.{ℕ, zero, suc, List, [], ◌∷◌, length, take, drop, replicate, Option, None, Some}
 use Rattle.std.specs.Int.Bits.{bit_and}
 use Rattle.buffers.specs.Bytes.{over}
 use Rattle.bank.specs.Bank.{bank_size}
@@ -22,8 +21,8 @@ written offset x flash = over offset (ands (take (length x) (drop offset flash))
 
 -- an erase request, if there is one
 abbrev pub erased_by : Option ℕ → List ℕ → List ℕ
-erased_by none flash = flash
-erased_by (some offset) flash = erased offset flash
+erased_by None flash = flash
+erased_by (Some offset) flash = erased offset flash
 
 -- an accepted commit's write comes after its erase; nothing else is done to the flash
 abbrev pub carried_out : Answer → List ℕ → List ℕ → List ℕ

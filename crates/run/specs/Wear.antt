@@ -1,7 +1,6 @@
 -- What the wear bound counts (01, 'A run, its book and the flash'; 02, N4, N5 and N7): S, the active bank's size; L, the most that live records come to at
 -- commits; the bytes inserted; and erase requests, by caller too.
-use Rattle.std.specs.Prelude.{ℕ, zero, suc, ◌+◌, max, List, [], ◌∷◌, Bool, true, cond, eqb}
-use Rattle.std.proofs.Math.Option.{Option, none, some}
+use Rattle.std.specs.Prelude.{ℕ, zero, suc, ◌+◌, max, List, [], ◌∷◌, Bool, true, cond, eqb, Option, None, Some}
 use Rattle.tally.specs.declared.Caller.{Caller}
 use Rattle.tally.specs.Tally.{is_own}
 use Rattle.bank.specs.Bank.{Slot, empty, invalid, valid}
@@ -61,8 +60,8 @@ inserted_bytes (p ∷ ps) = added p.event.call (number p.event.answer) + inserte
 -- erase requests
 
 abbrev pub requested : Option ℕ → ℕ
-requested none = 0
-requested (some offset) = 1
+requested None = 0
+requested (Some offset) = 1
 
 -- the number of erase requests answered in a list
 unfoldable pub requests : List Page → ℕ

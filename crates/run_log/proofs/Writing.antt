@@ -1,38 +1,57 @@
--- The writer: its loop over the starts, its tests, and what it answers and gives.
+-- The writer: its loop over the entries, its tests, and what it answers and gives.
 use Prim.Native.Nat.{ℕ, suc, ◌+◌, ◌/◌, ◌%◌, ◌≤◌, ◌<◌}
 use mathlib.Core.Path.{◌≡◌, refl, sym, ap, ◌∙◌}
-use mathlib.Core.List.{List, ◌++◌}
-use mathlib.Core.Bool.{true, false, ◌||◌}
+use mathlib.Core.List.{List, [], ◌∷◌, ◌++◌}
+use mathlib.Core.Bool.{Bool, true, false, ◌||◌}
+use native.Mathlib.Numerals.{add-one}
 use native.Mathlib.Omega.{arith}
 use lib.Dec.{ltb}
 use lib.ListN.{length, get_or, drop, drop_of_length-le, length-append}
 use lib.Seq.{drop-cons}
 use borrow.Author.Tests.{lt-ltb, le-ltb, ltb-false}
+use Rattle.std.specs.Prelude.{Ok, Err}
+use Rattle.std.specs.Simd.{first_chunks}
 use Rattle.buffers.specs.Bytes.{over}
 use Rattle.buffers.proofs.Laws.{by_test}
 use Rattle.buffers.proofs.OverLaws.{over_over}
 use Rattle.leb128.specs.Leb128.{encoded, encoded_all}
-use Rattle.run_log.specs.Result.{refused_by, gives, answer_of, Answered}
+use Rattle.refusal.specs.declared.Refusal.{Refusal}
+use Rattle.refusal.specs.declared.Refusal.TheVariants.{LogOrder, LogLength}
+use Rattle.run_log.specs.Output.{answer_of, Answered}
 use Rattle.run_log.specs.RunLog.{log_bytes, falls, write_log, writing}
 use Rattle.run_log.proofs.Results.{Shows, is_refused, is_given, fit_refused, fit_short, fit_room, refused_answered, gives_answered}
 
--- the loop over the starts
-module _ (ns : List ℕ) (i last : ℕ) (h : i + 3 ≤ length ns) where
-  falls_turn : falls last (drop i ns) ≡ (ltb (get_or ns i 0) last || falls (get_or ns i 0) (drop (i + 3) ns))
-  unfolding falls
-  falls_turn =
-      let e : i + 3 ≡ suc (suc (suc i)) = omega arith in
-      rw (e, drop-cons ns i 0 (omega arith), drop-cons ns (suc i) 0 (omega arith), drop-cons ns (suc (suc i)) 0 (omega arith))
+-- a start is below the one before it, of entries by themselves
+unfoldable pub entries_fall : ℕ → List (List ℕ) → Bool
+entries_fall last [] = false
+entries_fall last (entry ∷ entries) = ltb (get_or entry 0 0) last || entries_fall (get_or entry 0 0) entries
 
-  pub falls_here : get_or ns i 0 < last → falls last (drop i ns) ≡ true
-  falls_here l = falls_turn ∙ simp (lt-ltb (get_or ns i 0) last l)
+pub falls_entries : (last : ℕ) (ns : List ℕ) → falls last ns ≡ entries_fall last (first_chunks 3 (length ns / 3) ns)
+unfolding falls entries_fall
+falls_entries last [] = refl
+falls_entries last (a ∷ []) = refl
+falls_entries last (a ∷ b ∷ []) = refl
+falls_entries last (a ∷ b ∷ c ∷ ns) =
+    let d : suc (suc (suc (length ns))) / 3 ≡ suc (length ns / 3) = omega arith in
+    rw d (ap (◌||◌ (ltb a last)) (falls_entries a ns))
 
-  pub falls_more : last ≤ get_or ns i 0 → falls last (drop i ns) ≡ falls (get_or ns i 0) (drop (i + 3) ns)
-  falls_more l = falls_turn ∙ simp (le-ltb (get_or ns i 0) last l)
+-- the loop over them
+module _ (entries : List (List ℕ)) (i last : ℕ) (h : i < length entries) where
+  falls_turn : entries_fall last (drop i entries)
+      ≡ (ltb (get_or (get_or entries i []) 0 0) last || entries_fall (get_or (get_or entries i []) 0 0) (drop (i + 1) entries))
+  unfolding entries_fall
+  falls_turn = rw (add-one, drop-cons entries i [] h) refl
 
-pub falls_none : (ns : List ℕ) (i last : ℕ) → length ns ≤ i → falls last (drop i ns) ≡ false
-unfolding falls
-falls_none ns i last h = rw (drop_of_length-le ns h)
+  pub falls_here : get_or (get_or entries i []) 0 0 < last → entries_fall last (drop i entries) ≡ true
+  falls_here l = falls_turn ∙ simp (lt-ltb _ last l)
+
+  pub falls_more : last ≤ get_or (get_or entries i []) 0 0
+      → entries_fall last (drop i entries) ≡ entries_fall (get_or (get_or entries i []) 0 0) (drop (i + 1) entries)
+  falls_more l = falls_turn ∙ simp (le-ltb _ last l)
+
+pub falls_none : (entries : List (List ℕ)) (i last : ℕ) → length entries ≤ i → entries_fall last (drop i entries) ≡ false
+unfolding entries_fall
+falls_none entries i last h = rw (drop_of_length-le entries h) refl
 
 -- the log's bytes
 pub log_is : (ns : List ℕ) → log_bytes ns ≡ encoded (length ns / 3) ++ encoded_all ns
@@ -44,7 +63,7 @@ length_log ns = ap length (log_is ns) ∙ length-append (encoded (length ns / 3)
 
 -- the tests
 module _ (ns : List ℕ) where
-  pub write_threes : 0 < length ns % 3 → write_log ns ≡ refused_by 18
+  pub write_threes : 0 < length ns % 3 → write_log ns ≡ Err LogLength
   unfolding write_log
   write_threes h = simp (lt-ltb _ _ h)
 
@@ -52,16 +71,16 @@ module _ (ns : List ℕ) where
     three : length ns % 3 ≤ 0
     three = omega arith
 
-    pub write_falls : falls 0 ns ≡ true → write_log ns ≡ refused_by 17
+    pub write_falls : falls 0 ns ≡ true → write_log ns ≡ Err LogOrder
     unfolding write_log
     write_falls r = simp (le-ltb _ _ three, r)
 
     module _ (r : falls 0 ns ≡ false) where
-      pub write_long : 4096 < length (log_bytes ns) → write_log ns ≡ refused_by 18
+      pub write_long : 4096 < length (log_bytes ns) → write_log ns ≡ Err LogLength
       unfolding write_log
       write_long h = simp (le-ltb _ _ three, r, lt-ltb _ _ h)
 
-      pub write_gives : length (log_bytes ns) ≤ 4096 → write_log ns ≡ gives (log_bytes ns)
+      pub write_gives : length (log_bytes ns) ≤ 4096 → write_log ns ≡ Ok (log_bytes ns)
       unfolding write_log
       write_gives h = simp (le-ltb _ _ three, r, le-ltb _ _ h)
 
@@ -84,14 +103,14 @@ write_shows ns =
 
 -- what is answered and given
 module _ (ns out : List ℕ) where
-  pub write_refused : {k : ℕ} → write_log ns ≡ refused_by k → Answered 1 (writing ns (length out)) out (record { number = k; count = 0 }) out
+  pub write_refused : {k : Refusal} → write_log ns ≡ Err k → Answered 1 (writing ns (length out)) out (Err k) out
   unfolding writing
-  write_refused e = refused_answered 1 out (fit_refused (length out) e)
+  write_refused e = refused_answered 1 out (fit_refused LogLength (length out) e)
 
-  module _ (e : write_log ns ≡ gives (log_bytes ns)) where
-    pub write_no_room : length out < length (log_bytes ns) → Answered 1 (writing ns (length out)) out (record { number = 18; count = 0 }) out
+  module _ (e : write_log ns ≡ Ok (log_bytes ns)) where
+    pub write_no_room : length out < length (log_bytes ns) → Answered 1 (writing ns (length out)) out (Err LogLength) out
     unfolding writing
-    write_no_room l = refused_answered 1 out (fit_short (length out) e l)
+    write_no_room l = refused_answered 1 out (fit_short LogLength (length out) e l)
 
     -- the count, and the numbers behind it
     pub write_given : {u v : List ℕ} {at size : ℕ} → length (log_bytes ns) ≤ length out
@@ -99,10 +118,10 @@ module _ (ns out : List ℕ) where
         → at ≡ 0 + length (encoded (length ns / 3))
         → u ≡ over 0 (encoded (length ns / 3)) out
         → v ≡ over at (encoded_all ns) u
-        → Answered 1 (writing ns (length out)) out (record { number = 0; count = size }) v
+        → Answered 1 (writing ns (length out)) out (Ok size) v
     unfolding writing answer_of
     write_given {at = at} l z a p q =
         let d : length (log_bytes ns) / 1 ≡ length (log_bytes ns) = omega arith in
         let o = over_over 0 at (encoded (length ns / 3)) (encoded_all ns) out a (omega (arith, length_log ns)) in
-        gives_answered 1 (fit_room (length out) e l) (rw (z, d) refl)
+        gives_answered 1 (fit_room LogLength (length out) e l) (rw (z, d) refl)
         (q ∙ ap (over at (encoded_all ns)) p ∙ o ∙ ap (λ (x : List ℕ). over 0 x out) (sym (log_is ns)))

@@ -1,2 +1,2 @@
-pub mod Result
+pub mod Output
 pub mod RunLog

@@ -1,53 +1,49 @@
 // The writer: threes, entries, the log's size, the output.
-ghost use Rattle.std.specs.Prelude.{◌≡◌, ◌%◌, length};
-ghost use Rattle.run_log.specs.Result.{Answered};
-ghost use Rattle.run_log.specs.RunLog.{falls as fallsFrom, writing};
+ghost use Rattle.std.specs.Prelude.{◌≡◌, length};
+ghost use Rattle.run_log.specs.Output.{Answered};
+ghost use Rattle.run_log.specs.RunLog.{falls as falls_from, writing};
 
-use super::answer::{Counted, MOST, refused};
+use super::MOST;
 use leb128::{encode, encode_all, encoded_len, encoded_len_all};
+use refusal::Refusal;
 
 // Whether a start is below the one before.
 fn falls(ns: &[u32]) -> bool
-    requires { length ns.now % 3 ≡ 0 }
-    ensures { result ≡ fallsFrom 0 ns.now }
+    ensures { result ≡ falls_from 0 ns.now }
 {
-    let mut last: u32 = 0;
-    let mut i: usize = 0;
-    while i < ns.len() {
-        if ns[i] < last {
+    let (entries, _) = ns.as_chunks::<3>();
+    let mut last = 0;
+    for &[start, _, _] in entries {
+        if start < last {
             return true;
         }
-        last = ns[i];
-        i += 3;
+        last = start;
     }
     false
 }
 
-// The log of entries, three numbers in a row for each.
-pub fn write(ns: &[u32], out: &mut [u8]) -> Counted
+// The log of entries, three numbers in a row for each, and how many bytes it takes.
+pub fn write(ns: &[u32], out: &mut [u8]) -> Result<usize, Refusal>
     ensures { Answered 1 (writing ns.now (length out.old)) out.old result out.new }
 {
     if ns.len() % 3 != 0 {
-        return refused(18);
+        return Err(Refusal::LogLength);
     }
     if falls(ns) {
-        return refused(17);
+        return Err(Refusal::LogOrder);
     }
     if MOST < ns.len() {
-        return refused(18);
+        return Err(Refusal::LogLength);
     }
     let count = (ns.len() / 3) as u32;
     let size = encoded_len(count) + encoded_len_all(ns);
     if MOST < size {
-        return refused(18);
+        return Err(Refusal::LogLength);
     }
     if out.len() < size {
-        return refused(18);
+        return Err(Refusal::LogLength);
     }
     let at = encode(count, out, 0);
     encode_all(ns, out, at);
-    Counted {
-        number: 0,
-        count: size,
-    }
+    Ok(size)
 }

@@ -7,7 +7,7 @@ ghost use Rattle.std.specs.Io.KnownBytes.{Appends};
 use std::io;
 use std::io::Write;
 
-#[derive(Drop)]
+#[derive(Default, Drop)]
 pub struct Score {
     pub right: u64,
     pub wrong: u64,
@@ -21,12 +21,12 @@ impl Score {
         if right {
             Score {
                 right: self.right.wrapping_add(1),
-                wrong: self.wrong,
+                ..self
             }
         } else {
             Score {
-                right: self.right,
                 wrong: self.wrong.wrapping_add(1),
+                ..self
             }
         }
     }

@@ -2,7 +2,7 @@
 use Prim.Native.Nat.{ℕ}
 use mathlib.Core.Path.{◌≡◌, refl, ap₂}
 use mathlib.Core.List.{List, [], ◌∷◌}
-use mathlib.Core.Bool.{true}
+use mathlib.Core.Bool.{true, ◌&&◌, and_assoc}
 use lib.Dec.{eqb}
 use borrow.Author.Tests.{eq-eqb, eqb-true}
 use Rattle.buffers.specs.Bytes.{eq_bytes}
@@ -30,6 +30,13 @@ header_equal h g e =
     let f : h.system_size ≡ g.system_size = eqb-true _ _ system.1 in
     let k : h.common_size ≡ g.common_size = eqb-true _ _ common.1 in
     λ i. record { size = a i; generation = b i; state = c i; flags = d i; system_size = f i; common_size = k i }
+
+-- as a derived `==` compares them
+pub header_same : (h g : StoreHeader)
+    → same_header h g
+    ≡ (eqb h.size g.size && (eqb h.generation g.generation && (eqb h.state g.state && (eqb h.flags g.flags && (eqb h.system_size g.system_size && eqb h.common_size g.common_size)))))
+unfolding same_header
+header_same h g = simp and_assoc
 
 pub header_refl : (h : StoreHeader) → same_header h h ≡ true
 unfolding same_header

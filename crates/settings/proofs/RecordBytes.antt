@@ -2,7 +2,7 @@
 -- just where the other bytes begin with a record of equal fields (`same_bytes`, by `other_stands` and by `parts_equal`).
 use Prim.Native.Nat.{ℕ, ◌+◌, ◌-◌, ◌≤◌, ◌<◌}
 use mathlib.Core.Path.{◌≡◌, refl, sym, ap, ◌∙◌, subst}
-use mathlib.Core.List.{List}
+use mathlib.Core.List.{List, [], ◌∷◌}
 use mathlib.Core.Bool.{Bool, true, false, ◌&&◌, and-false}
 use native.Mathlib.Omega.{arith}
 use lib.Dec.{eqb}
@@ -21,10 +21,9 @@ use Rattle.bank.proofs.NumberLaws.{start_low, start_high}
 use Rattle.bank.proofs.WalkLaws.{Stands, stands, stands_found, stands_size, stands_name}
 use Rattle.bank.proofs.ReadFine.{part_take, front_name, front_record, front_whole}
 use Rattle.bank.proofs.Normal.{normal}
-use Rattle.bank.proofs.FieldLaws.{name_is}
+use Rattle.bank.proofs.FieldLaws.{name_is, value_is}
 use Rattle.bank.proofs.IgnoreLaws.{Alike, u32_same, part_same}
 use Rattle.settings.specs.Same.{same_fields, alike, alike_at}
-use Rattle.settings.proofs.StopLaws.{size_at_lem}
 use Rattle.settings.proofs.Equal.{eqb_self, Fields, fields_equal, equal_fields}
 
 -- the places of a record's value and end, as the code has them
@@ -49,8 +48,8 @@ lengths s r e h p value end a b =
     let st = stands s r e in
     let d = st.ends in
     let i = name_is s (omega arith) h p in
-    let z = size_at_lem s (omega arith) h p end b in
-    record { value_is = omega arith; end_is = z; within = omega arith }
+    let v = value_is s (omega arith) h p in
+    record { value_is = omega arith; end_is = omega arith; within = omega arith }
 
 -- equal parts have equal bytes
 part_alike : (s t : List ℕ) (p m to : ℕ) → p + m ≡ to → take m (drop p s) ≡ take m (drop p t) → Alike s t p to
@@ -218,3 +217,37 @@ same_bytes s t ks kt long value end l y z q u states r e =
     let a : value - 1 - 4 ≡ 31 + name_at s = omega (arith, l.value_is) in
     let b : end - value ≡ value_at s = omega (arith, l.value_is, l.end_is) in
     rw (q, u, a, b, l.value_is) (by_parts s t ks kt (sym long) r (stands s r e) states)
+
+-- the start number and the state at once, as the code compares them
+
+three : (s t : List ℕ) → 3 ≤ length s → 3 ≤ length t
+    → eq_bytes (take 3 s) (take 3 t) ≡ (eqb (get_or s 0 0) (get_or t 0 0) && (eqb (get_or s 1 0) (get_or t 1 0) && (eqb (get_or s 2 0) (get_or t 2 0) && true)))
+unfolding eq_bytes
+three [] t l k = absurd (omega arith)
+three (a ∷ []) t l k = absurd (omega arith)
+three (a ∷ b ∷ []) t l k = absurd (omega arith)
+three (a ∷ b ∷ c ∷ s) [] l k = absurd (omega arith)
+three (a ∷ b ∷ c ∷ s) (x ∷ []) l k = absurd (omega arith)
+three (a ∷ b ∷ c ∷ s) (x ∷ y ∷ []) l k = absurd (omega arith)
+three (a ∷ b ∷ c ∷ s) (x ∷ y ∷ z ∷ t) l k = refl
+
+state_first : (a b c y z : Bool) → ((a && (b && (c && true))) && y && z) ≡ (c && (a && b && y && z))
+state_first true true true y z = refl
+state_first true true false y z = refl
+state_first true false true y z = refl
+state_first true false false y z = refl
+state_first false b true y z = refl
+state_first false b false y z = refl
+
+pub same_record_bytes : (s t : List ℕ) → Bytes s → Bytes t → length s ≡ length t → (value end : ℕ) → Lengths s value end → (x y z : Bool)
+    → x ≡ eq_bytes (take 3 s) (take 3 t)
+    → y ≡ eq_bytes (take (value - 1 - 4) (drop 4 s)) (take (value - 1 - 4) (drop 4 t))
+    → z ≡ eq_bytes (take (end - value) (drop value s)) (take (end - value) (drop value t))
+    → (r : Record) → found s ≡ got r
+    → (x && y && z) ≡ alike_at eqb r (found t)
+same_record_bytes s t ks kt long value end l x y z o q u r e =
+    let h = begun_long s r e in
+    ap (λ (b : Bool). b && y && z) (o ∙ three s t (omega arith) (omega arith))
+    ∙ state_first (eqb (get_or s 0 0) (get_or t 0 0)) (eqb (get_or s 1 0) (get_or t 1 0)) (eqb (get_or s 2 0) (get_or t 2 0)) y z
+    ∙ ap (λ (i : ℕ). eqb i (get_or t 2 0) && (eqb (get_or s 0 0) (get_or t 0 0) && eqb (get_or s 1 0) (get_or t 1 0) && y && z)) (state_at_lem s r e)
+    ∙ same_bytes s t ks kt long value end l y z q u eqb r e

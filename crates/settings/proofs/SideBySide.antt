@@ -1,18 +1,19 @@
 -- Two walks side by side: a turn of the loop (`turn_alike`, `turn_other`, `turn_stop`, `turn_fault`, `both_end`); then two slots by their heads
 -- (`headers_other`, `headers_same`, `no_one`, `no_other`), and any bytes lent (`compared_banks`, `compared_other`).
 use Prim.Native.Nat.{ℕ, ◌+◌, ◌-◌, ◌≤◌, ◌<◌}
-use mathlib.Core.Path.{◌≡◌, refl, sym, ap, ap₂, ◌∙◌, subst}
+use mathlib.Core.Path.{◌≡◌, refl, sym, ap, ap₂, ◌∙◌}
 use mathlib.Core.List.{List}
-use mathlib.Core.Bool.{Bool, true, false, ◌&&◌, not, cond, and-true, and-false}
-use lib.Dec.{eqb}
+use mathlib.Core.Bool.{Bool, true, false, ◌&&◌, not, not-not, cond, and-true, and-false}
 use native.Mathlib.Omega.{arith}
+use lib.Dec.{eqb}
 use lib.ListN.{length, take, drop, length-drop}
-use borrow.Author.Tests.{eqb-true}
-use Rattle.buffers.proofs.Laws.{clash, and_both}
-use Rattle.buffers.proofs.LoopSteps.{tail}
+use borrow.Author.Tests.{ne_eqb}
+use Rattle.buffers.proofs.Laws.{clash}
+use lib.Seq.{take_all}
 use Rattle.bank.specs.declared.header.StoreHeader.{StoreHeader}
-use Rattle.bank.specs.declared.header.Head.{Head}
-use Rattle.bank.specs.declared.header.Head.TheVariants.{Good, Signature, Version, Size}
+use Rattle.bank.specs.declared.header.HeaderFault.{HeaderFault}
+use Rattle.std.specs.Prelude.{Option, Some, None, Ok, Err}
+use Rattle.refusal.specs.declared.Refusal.TheVariants.{BankLength}
 use Rattle.bank.specs.declared.partition.Stop.{Stop}
 use Rattle.bank.specs.Header.{read_header}
 use Rattle.bank.specs.Record.{Record, size_of}
@@ -22,8 +23,8 @@ use Rattle.bank.proofs.WalkLaws.{stands, stands_size, size_pos, walk_end, walk_g
 use Rattle.bank.proofs.ReadBank.{came}
 use Rattle.bank.proofs.PartitionLaws.{bank_size_lem}
 use Rattle.settings.specs.Same.{same_header, alike, all_alike, alike_at, ends_at, size_here, same_walks, same_settings, compared}
-use Rattle.settings.proofs.Equal.{alike_equal, header_equal, yes_equal}
 use Rattle.settings.proofs.StopLaws.{stop_of, fault_of, record_of_lem}
+use Rattle.settings.proofs.Equal.{eqb_self, alike_equal, header_equal, yes_equal}
 
 -- walks that begin with a record each, and with a record and none
 first_alike : (r q : Record) (w v : Walk) → alike eqb r q ≡ true → same_walks (with_first r w) (with_first q v) ≡ same_walks w v
@@ -72,52 +73,54 @@ module _ (s t : List ℕ) (size at : ℕ) (h : at + 36 < size) where
   halt_here c e (got q) f =
       ap₂ same_walks (walk_halt s size at c h e) (walk_got t size at q h f) ∙ none_first c at q _ ∙ sym (and-false (not (spoils c)))
 
-  -- in the numbers that the code has, of what is lent from `at` on
-  abbrev lent : List ℕ → List ℕ
-  lent l = take (length l - at) (drop at l)
+-- in the numbers that the code has, of what is lent from `at` on of m bytes
+abbrev lent : ℕ → ℕ → List ℕ → List ℕ
+lent m at l = take (m - at) (drop at l)
 
-  lent_found : (l : List ℕ) → found (lent l) ≡ found (drop at l)
-  lent_found l = ap found (tail l at)
+lent_found : (m at : ℕ) (l : List ℕ) → length l ≡ m → found (lent m at l) ≡ found (drop at l)
+lent_found m at l e = ap found (take_all (m - at) (drop at l) (omega (arith, e, length-drop at l)))
 
-  pub turn_stop : ends_at (found (lent s)) ≡ true → here ≡ ends_at (found (lent t))
+module _ (s t : List ℕ) (size at : ℕ) {m k : ℕ} (ls : length s ≡ m) (lt : length t ≡ k) (h : at + 36 < size) where
+  pub turn_stop : ends_at (found (lent m at s)) ≡ true → here s t size at h ≡ ends_at (found (lent k at t))
   turn_stop e =
-      let i = stop_of (found (drop at s)) (sym (ap ends_at (lent_found s)) ∙ e) in
-      halt_here i.0 i.1 (found (drop at t)) refl ∙ rw (i.2, tail t at) refl
+      let i = stop_of (found (lent m at s)) e in
+      halt_here s t size at h i.0 (sym (lent_found m at s ls) ∙ i.1) (found (drop at t)) refl ∙ rw (i.2, lent_found k at t lt) refl
 
-  module _ (n : ℕ) (e : n ≡ size_here (found (lent s))) where
-    pub turn_fault : ends_at (found (lent s)) ≡ false → n ≡ 0 → here ≡ false
+  module _ (o : Option ℕ) (e : o ≡ size_here (found (lent m at s))) where
+    pub turn_fault : ends_at (found (lent m at s)) ≡ false → o ≡ None → here s t size at h ≡ false
     turn_fault f z =
-        let i = fault_of (found (drop at s)) (sym (ap ends_at (lent_found s)) ∙ f) (sym z ∙ e ∙ ap size_here (lent_found s)) in
-        halt_here i.0 i.1 (found (drop at t)) refl ∙ rw i.2 refl
+        let i = fault_of (found (lent m at s)) f (sym z ∙ e) in
+        halt_here s t size at h i.0 (sym (lent_found m at s ls) ∙ i.1) (found (drop at t)) refl ∙ rw i.2 refl
 
-    module _ (z : n ≡ 0 → ⊥) where
-      pub record_lent : (r : Record) × (found (lent s) ≡ got r)
-      record_lent = let i = record_of_lem (found (lent s)) n e z in (i.0, i.1)
+    module _ (n : ℕ) (f : o ≡ Some n) where
+      record_there : (r : Record) × (found (lent m at s) ≡ got r) × (size_of r ≡ n)
+      record_there = record_of_lem (found (lent m at s)) n (sym f ∙ e)
 
-      record_here : (r : Record) × (found (drop at s) ≡ got r) × (size_of r ≡ n)
-      record_here = record_of_lem (found (drop at s)) n (e ∙ ap size_here (lent_found s)) z
+      record_here : found (drop at s) ≡ got record_there.0
+      record_here = sym (lent_found m at s ls) ∙ record_there.1
 
-      pub record_within : (36 < n) × (at + n ≤ length s)
+      pub record_lent : (r : Record) × (found (lent m at s) ≡ got r)
+      record_lent = let i = record_there in (i.0, i.1)
+
+      pub record_within : (36 < n) × (at + n ≤ m)
       record_within =
-          let i = record_here in
-          let st = stands (drop at s) i.0 i.1 in
+          let i = record_there in
+          let st = stands (drop at s) i.0 record_here in
           let long = stands_size (drop at s) i.0 st in
-          (omega (arith, i.2, size_pos i.0), omega (arith, i.2, long, size_pos i.0, st.ends, length-drop at s))
+          (omega (arith, i.2, size_pos i.0), omega (arith, ls, i.2, long, size_pos i.0, st.ends, length-drop at s))
 
       -- x is what was found of the two records
-      module _ (x : Bool) (k : (r : Record) → found (lent s) ≡ got r → x ≡ alike_at eqb r (found (lent t))) where
-        compares : alike_at eqb record_here.0 (found (drop at t)) ≡ x
-        compares =
-            let i = record_here in
-            ap (alike_at eqb i.0) (sym (lent_found t)) ∙ sym (k i.0 (lent_found s ∙ i.1))
+      module _ (x : Bool) (same : (r : Record) → found (lent m at s) ≡ got r → x ≡ alike_at eqb r (found (lent k at t))) where
+        compares : alike_at eqb record_there.0 (found (drop at t)) ≡ x
+        compares = let i = record_there in ap (alike_at eqb i.0) (sym (lent_found k at t lt)) ∙ sym (same i.0 i.1)
 
-        pub turn_alike : x ≡ true → here ≡ next n
+        pub turn_alike : x ≡ true → here s t size at h ≡ next s t size at h n
         turn_alike y =
-            let i = record_here in
-            alike_here i.0 i.1 (found (drop at t)) refl (compares ∙ y) ∙ ap next i.2
+            let i = record_there in
+            alike_here s t size at h i.0 record_here (found (drop at t)) refl (compares ∙ y) ∙ ap (next s t size at h) i.2
 
-        pub turn_other : x ≡ false → here ≡ false
-        turn_other y = let i = record_here in other_here i.0 i.1 (found (drop at t)) refl (compares ∙ y)
+        pub turn_other : x ≡ false → here s t size at h ≡ false
+        turn_other y = let i = record_there in other_here s t size at h i.0 record_here (found (drop at t)) refl (compares ∙ y)
 
 pub both_end : (s t : List ℕ) (size at : ℕ) → size ≤ at + 36 → same_walks (walk_from s size at) (walk_from t size at) ≡ true
 unfolding same_walks all_alike
@@ -138,51 +141,50 @@ module _ (s t : List ℕ) where
       go false true = sym (and-false (same_header h g))
       go false false = refl
 
-  module _ (h g : StoreHeader) (p : read_header s ≡ Good h) (q : read_header t ≡ Good g) where
+  module _ (h g : StoreHeader) (p : read_header s ≡ Ok h) (q : read_header t ≡ Ok g) where
     both : same_settings (read_bank s) (read_bank t) ≡ (same_header h g && same_walks (walk_from s h.size 24) (walk_from t g.size 24))
     unfolding read_bank after_head
     both = ap₂ same_settings (ap (after_head s) p) (ap (after_head t) q) ∙ by_walks h g _ _
 
-    pub headers_other : same_header h g ≡ false → false ≡ same_settings (read_bank s) (read_bank t)
-    headers_other e = sym (both ∙ rw e refl)
+    pub headers_other : not (same_header h g) ≡ true → false ≡ same_settings (read_bank s) (read_bank t)
+    headers_other e = let n : same_header h g ≡ false = sym (not-not (same_header h g)) ∙ ap not e in sym (both ∙ rw n refl)
 
-    pub headers_same : same_header h g ≡ true
+    pub headers_same : not (same_header h g) ≡ false
         → same_walks (walk_from s h.size 24) (walk_from t h.size 24) ≡ same_settings (read_bank s) (read_bank t)
-    headers_same e =
+    headers_same n =
+        let e : same_header h g ≡ true = sym (not-not (same_header h g)) ∙ ap not n in
         let size : h.size ≡ g.size = ap (λ (x : StoreHeader). x.size) (header_equal h g e) in
         sym (both ∙ rw (e, sym size) refl)
 
--- a bank without a good header is not Valid
-abbrev NoHeader : Head → Type 0
-NoHeader (Good h) = ⊥
-NoHeader Signature = Unit {0}
-NoHeader Version = Unit {0}
-NoHeader Size = Unit {0}
-
-not_valid : (s : List ℕ) (o : Head) → read_header s ≡ o → NoHeader o → (b : Bank) → read_bank s ≡ valid b → ⊥
-not_valid s o p k b e = subst NoHeader (sym p ∙ (came s b e).head) k
+-- a bank without a header is not Valid
+not_valid : (s : List ℕ) (f : HeaderFault) → read_header s ≡ Err f → (b : Bank) → read_bank s ≡ valid b → ⊥
+not_valid s f p b e = let z : Err f ≡ Ok b.header = sym p ∙ (came s b e).head in clash cc
 
 no : (yes : Bool) → (yes ≡ true → ⊥) → false ≡ yes
 no false f = refl
 no true f = absurd (f refl)
 
-pub no_one : (s : List ℕ) (y : Slot) (o : Head) → read_header s ≡ o → NoHeader o → false ≡ same_settings (read_bank s) y
-no_one s y o p k = no _ (λ e. let q = yes_equal (read_bank s) y e in not_valid s o p k q.one q.one_is)
+pub no_one : (s : List ℕ) (y : Slot) (f : HeaderFault) → read_header s ≡ Err f → false ≡ same_settings (read_bank s) y
+no_one s y f p = no _ (λ e. let q = yes_equal (read_bank s) y e in not_valid s f p q.one q.one_is)
 
-pub no_other : (x : Slot) (t : List ℕ) (o : Head) → read_header t ≡ o → NoHeader o → false ≡ same_settings x (read_bank t)
-no_other x t o p k = no _ (λ e. let q = yes_equal x (read_bank t) e in not_valid t o p k q.other q.other_is)
+pub no_other : (x : Slot) (t : List ℕ) (f : HeaderFault) → read_header t ≡ Err f → false ≡ same_settings x (read_bank t)
+no_other x t f p = no _ (λ e. let q = yes_equal x (read_bank t) e in not_valid t f p q.other q.other_is)
 
 -- any bytes lent
-module _ (s t : List ℕ) (a : Bool) (p : a ≡ (eqb (length s) bank_size && eqb (length t) bank_size)) where
-  pub compared_banks : a ≡ true → compared s t ≡ record { number = 0; same = same_settings (read_bank s) (read_bank t) }
+module _ (s t : List ℕ) where
+  pub compared_banks : length s ≡ bank_size → length t ≡ bank_size → compared s t ≡ Ok (same_settings (read_bank s) (read_bank t))
   unfolding compared
-  compared_banks e = simp (sym p ∙ e)
+  compared_banks p q = rw (p, q) (simp eqb_self)
 
-  pub compared_other : a ≡ false → compared s t ≡ record { number = 14; same = false }
+  pub compared_long : length s ≡ 65536 → length t ≡ 65536 → Ok (same_settings (read_bank s) (read_bank t)) ≡ compared s t
+  compared_long p q = sym (compared_banks (p ∙ sym bank_size_lem) (q ∙ sym bank_size_lem))
+
+  pub compared_other : (eqb (length s) bank_size && eqb (length t) bank_size) ≡ false → compared s t ≡ Err BankLength
   unfolding compared
-  compared_other e = simp (sym p ∙ e)
+  compared_other e = rw e
 
-  pub both_long : a ≡ true → (length s ≡ 65536) × (length t ≡ 65536)
-  both_long e =
-      let k = and_both (eqb (length s) bank_size) (eqb (length t) bank_size) (sym p ∙ e) in
-      (eqb-true _ _ k.0 ∙ bank_size_lem, eqb-true _ _ k.1 ∙ bank_size_lem)
+  pub refused_one : (length s ≡ 65536 → ⊥) → Err BankLength ≡ compared s t
+  refused_one n = let e : length s ≡ bank_size → ⊥ = λ p. n (p ∙ bank_size_lem) in sym (compared_other (simp (ne_eqb _ _ e)))
+
+  pub refused_other : (length t ≡ 65536 → ⊥) → Err BankLength ≡ compared s t
+  refused_other n = let e : length t ≡ bank_size → ⊥ = λ p. n (p ∙ bank_size_lem) in sym (compared_other (simp (ne_eqb _ _ e, and-false)))

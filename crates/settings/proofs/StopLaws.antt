@@ -1,26 +1,25 @@
 -- What stands at an offset of a bank: whether reading stops there, and the size of a record. Its cases are `stop_of`, `fault_of` and `record_of_lem`; the others are
 -- what `ends` and `record_size` find.
-use Prim.Native.Nat.{ℕ, ◌+◌, ◌*◌, ◌≤◌, ◌<◌}
+use Prim.Native.Nat.{ℕ, ◌+◌, ◌≤◌, ◌<◌}
 use mathlib.Core.Path.{◌≡◌, refl, sym, ap, ◌∙◌}
 use mathlib.Core.List.{List}
 use mathlib.Core.Bool.{Bool, true, false, not, cond}
 use native.Mathlib.Omega.{arith}
 use lib.Dec.{ltb, eqb}
-use lib.ListN.{length, get_or, take, drop}
+use lib.ListN.{length, take, drop}
 use borrow.Author.Tests.{eq-eqb, le-leb, ltb-true, ltb-false, eqb-true, eqb-false}
 use Rattle.crc32.specs.Crc32.{crc32_of}
 use Rattle.buffers.specs.Bytes.{all_blank}
 use Rattle.buffers.proofs.Laws.{clash}
 use Rattle.bank.specs.declared.partition.Stop.{Stop}
 use Rattle.bank.specs.declared.partition.Stop.TheVariants.{Name, Crc}
-use Rattle.bank.specs.declared.variable.Step.{Step}
-use Rattle.bank.specs.declared.variable.Step.TheVariants.{Next, Halt}
+use Rattle.std.specs.Prelude.{Option, Some, None, Result, Ok, Err}
 use Rattle.bank.specs.declared.variable.VarHeader.{VarHeader}
 use Rattle.bank.specs.Number.{u16_at, u32_at}
 use Rattle.bank.specs.Record.{Record, record_of, size_of, name_at, value_at, size_at}
 use Rattle.bank.specs.Read.{Item, got, halt, found, spoils}
 use Rattle.bank.specs.Answer.{parsed_header, step_of}
-use Rattle.bank.proofs.WalkLaws.{not_blank, found_blank, found_start, found_length, size_pos}
+use Rattle.bank.proofs.WalkLaws.{not_blank, found_blank, found_start, found_length}
 use Rattle.bank.proofs.FieldLaws.{name_is, value_is}
 use Rattle.settings.specs.Same.{ends_at, size_here}
 
@@ -34,27 +33,22 @@ stop_of (halt c) e = (c, refl, go (spoils c) e)
     go true q = clash cc
     go false q = refl
 
-pub fault_of : (o : Item) → ends_at o ≡ false → 0 ≡ size_here o → (c : Stop) × (o ≡ halt c) × (spoils c ≡ true)
+pub fault_of : (o : Item) → ends_at o ≡ false → None ≡ size_here o → (c : Stop) × (o ≡ halt c) × (spoils c ≡ true)
 unfolding ends_at size_here
-fault_of (got r) e z = absurd (omega (arith, size_pos r))
+fault_of (got r) e z = clash cc
 fault_of (halt c) e z = (c, refl, go (spoils c) e)
   where
     go : (b : Bool) → not b ≡ false → b ≡ true
     go true q = refl
     go false q = clash cc
 
-pub record_of_lem : (o : Item) (n : ℕ) → n ≡ size_here o → (n ≡ 0 → ⊥) → (r : Record) × (o ≡ got r) × (size_of r ≡ n)
+pub record_of_lem : (o : Item) (n : ℕ) → Some n ≡ size_here o → (r : Record) × (o ≡ got r) × (size_of r ≡ n)
 unfolding size_here
-record_of_lem (got r) n e z = (r, refl, sym e)
-record_of_lem (halt c) n e z = absurd (z e)
+record_of_lem (got r) n e = (r, refl, cc)
+record_of_lem (halt c) n e = clash cc
 
 -- what remains of a bank
 module _ (s : List ℕ) where
-  -- the start number, as the code has it
-  pub start_is : (n : ℕ) → n ≡ get_or s 0 0 + 256 * get_or s 1 0 + 65536 * 0 + 16777216 * 0 → n ≡ u16_at s 0
-  unfolding u16_at
-  start_is n e = omega arith
-
   pub ends_start : (u16_at s 0 ≡ 0x55AA → ⊥) → true ≡ ends_at (found s)
   unfolding ends_at
   ends_start n = go (all_blank (take 36 s)) refl
@@ -104,11 +98,11 @@ module _ (s : List ℕ) (long : 36 ≤ length s) (h : VarHeader) (p : h ≡ pars
   end_fits e = omega (arith, size_at_lem, (record_begins s e).1)
 
 -- by the step that the reader of a bank would take
-abbrev size_by : Step → ℕ
-size_by (Next n) = n
-size_by (Halt c) = 0
+abbrev size_by : Result ℕ Stop → Option ℕ
+size_by (Ok n) = Some n
+size_by (Err c) = None
 
-pub size_by_lem : (o : Item) (t : Step) → t ≡ step_of o → size_by t ≡ size_here o
+pub size_by_lem : (o : Item) (t : Result ℕ Stop) → t ≡ step_of o → size_by t ≡ size_here o
 unfolding step_of size_here
 size_by_lem o t e = ap size_by e ∙ go o
   where

@@ -3,7 +3,7 @@
 use Prim.Native.Nat.{ℕ, zero, suc, ◌-◌, ◌≤◌, ◌<◌}
 use mathlib.Core.Path.{◌≡◌, refl, sym, ap, ap₂, ◌∙◌}
 use mathlib.Core.List.{List, [], ◌∷◌, ◌++◌, append_assoc}
-use mathlib.Core.Bool.{Bool, true, false, ◌&&◌}
+use mathlib.Core.Bool.{Bool, true, false, ◌&&◌, cond}
 use mathlib.Core.Logic.{◌↔◌}
 use native.Mathlib.Omega.{arith}
 use lib.Dec.{eqb}
@@ -14,7 +14,8 @@ use Rattle.crc32.specs.Crc32.{Bytes}
 use Rattle.buffers.specs.Bytes.{all_blank}
 use Rattle.buffers.proofs.Laws.{clash, and_both}
 use Rattle.bank.specs.declared.header.StoreHeader.{StoreHeader}
-use Rattle.bank.specs.declared.header.Head.TheVariants.{Good}
+use Rattle.std.specs.Prelude.{Ok, Err}
+use Rattle.refusal.specs.declared.Refusal.TheVariants.{BankLength}
 use Rattle.bank.specs.declared.partition.Stop.TheVariants.{Blank}
 use Rattle.bank.specs.Header.{header_bytes, read_header}
 use Rattle.bank.specs.Record.{Record, size_of, record_bytes, records_bytes}
@@ -30,10 +31,9 @@ use Rattle.bank.proofs.RecordBack.{record_back}
 use Rattle.bank.proofs.ReadBank.{read_fine}
 use Rattle.bank.proofs.PartitionLaws.{bank_size_lem}
 use Rattle.bank.proofs.IgnoreLaws.{Ignored, bank_same}
-use Rattle.settings.specs.declared.Compared.{Compared}
 use Rattle.settings.specs.Same.{same_settings, compared, WrittenAlike}
-use Rattle.settings.proofs.Equal.{eqb_self, EqualBanks, yes_equal, equal_yes}
-use Rattle.settings.proofs.SideBySide.{compared_banks, compared_other}
+use Rattle.settings.proofs.Equal.{EqualBanks, yes_equal, equal_yes}
+use Rattle.settings.proofs.SideBySide.{compared_banks}
 
 -- what is written determines the records
 
@@ -84,7 +84,7 @@ output_is k = append_assoc (header_bytes k.header) (records_bytes k.records) (bl
 pub output_equal : (b c : Bank) → FineBank b → FineBank c → output b ≡ output c → EqualBanks b c
 output_equal b c fb fc e =
     let p : header_bytes b.header ++ behind b ≡ header_bytes c.header ++ behind c = sym (output_is b) ∙ e ∙ output_is c in
-    let g : Good b.header ≡ Good c.header =
+    let g : Ok b.header ≡ Ok c.header =
     sym (header_back b.header (behind b) fb.header_fine) ∙ ap read_header p ∙ header_back c.header (behind c) fc.header_fine in
     let d : behind b ≡ behind c =
     sym (drop_at (header_bytes b.header) (behind b) 24 (length_header b.header)) ∙ ap (drop 24) p
@@ -98,12 +98,11 @@ equal_output b c q =
 
 -- banks of 65,536 bytes that are read so
 module _ (s t : List ℕ) (b c : Bank) (ls : length s ≡ bank_size) (lt : length t ≡ bank_size) (p : read_bank s ≡ valid b) (q : read_bank t ≡ valid c) where
-  equal_same : EqualBanks b c → (compared s t).same ≡ true
+  equal_same : EqualBanks b c → compared s t ≡ Ok true
   equal_same e =
-      let l : (eqb (length s) bank_size && eqb (length t) bank_size) ≡ true = rw (ls, lt) (simp eqb_self) in
-      ap (λ (x : Compared). x.same) (compared_banks s t _ refl l) ∙ ap₂ same_settings p q ∙ equal_yes b c e
+      compared_banks s t ls lt ∙ ap Ok (ap₂ same_settings p q ∙ equal_yes b c e)
 
-  written_same : Bytes s → Bytes t → output b ≡ output c → (compared s t).same ≡ true
+  written_same : Bytes s → Bytes t → output b ≡ output c → compared s t ≡ Ok true
   written_same ks kt e =
       let fb = (read_fine s b ks (omega (arith, bank_size_lem)) p).0 in
       let fc = (read_fine t c kt (omega (arith, bank_size_lem)) q).0 in
@@ -114,20 +113,24 @@ pub ignored_same : (s t : List ℕ) (b : Bank) (n : ℕ) → length s ≡ bank_s
     → b.header.size ≤ n
     → total b ≤ n
     → ((i : ℕ) → i < n → (i ≡ 15 → ⊥) → (Ignored 24 b.records i → ⊥) → get_or t i 0 ≡ get_or s i 0)
-    → (compared s t).same ≡ true
+    → compared s t ≡ Ok true
 ignored_same s t b n ls lt p reach ends same =
     equal_same s t b b ls lt p (bank_same s t b n (lt ∙ sym ls) p reach ends same) (record { header = refl; records = refl })
 
 -- request N1: yes, if and only if both are Valid and would be written with equal bytes
 module _ (s t : List ℕ) (ks : Bytes s) (kt : Bytes t) where
-  yes_written : (compared s t).same ≡ true → WrittenAlike s t
-  yes_written e = go (eqb (length s) bank_size && eqb (length t) bank_size) refl
+  yes_written : compared s t ≡ Ok true → WrittenAlike s t
+  unfolding compared
+  yes_written e = go (eqb (length s) bank_size && eqb (length t) bank_size) refl e
     where
-      go : (b : Bool) → (eqb (length s) bank_size && eqb (length t) bank_size) ≡ b → WrittenAlike s t
-      go false q = let z : false ≡ true = sym (ap (λ (c : Compared). c.same) (compared_other s t _ refl q)) ∙ e in clash cc
-      go true q =
+      go : (b : Bool) → (eqb (length s) bank_size && eqb (length t) bank_size) ≡ b
+          → cond b (Ok (same_settings (read_bank s) (read_bank t))) (Err BankLength) ≡ Ok true
+          → WrittenAlike s t
+      go false q z = clash cc
+      go true q z =
           let long = and_both (eqb (length s) bank_size) (eqb (length t) bank_size) q in
-          let y = yes_equal (read_bank s) (read_bank t) (sym (ap (λ (c : Compared). c.same) (compared_banks s t _ refl q)) ∙ e) in
+          let yes : same_settings (read_bank s) (read_bank t) ≡ true = cc in
+          let y = yes_equal (read_bank s) (read_bank t) yes in
           record {
             one = y.one;
             other = y.other;
@@ -138,8 +141,8 @@ module _ (s t : List ℕ) (ks : Bytes s) (kt : Bytes t) where
             written = equal_output y.one y.other y.equal;
           }
 
-  written_yes : WrittenAlike s t → (compared s t).same ≡ true
+  written_yes : WrittenAlike s t → compared s t ≡ Ok true
   written_yes w = written_same s t w.one w.other w.one_long w.other_long w.one_reads w.other_reads ks kt w.written
 
-  pub same_written : ((compared s t).same ≡ true) ↔ WrittenAlike s t
+  pub same_written : (compared s t ≡ Ok true) ↔ WrittenAlike s t
   same_written = (yes_written, written_yes)

@@ -1,11 +1,12 @@
 -- Whether two banks hold the same settings (request N1, 'Same settings, other bytes'): yes or no, of what each bank is read as.
-use Rattle.std.specs.Prelude.{ℕ, ◌≡◌, List, [], ◌∷◌, Bool, true, false, ◌&&◌, not, cond, eqb, length}
+use Rattle.std.specs.Prelude.{ℕ, ◌≡◌, Option, Some, None, Result, Ok, Err, List, [], ◌∷◌, Bool, true, false, ◌&&◌, not, cond, eqb, length}
 use Rattle.buffers.specs.Bytes.{eq_bytes}
 use Rattle.bank.specs.declared.header.StoreHeader.{StoreHeader}
 use Rattle.bank.specs.Record.{Record, size_of}
 use Rattle.bank.specs.Bank.{Bank, Slot, empty, invalid, valid, bank_size, output}
 use Rattle.bank.specs.Read.{Item, got, halt, Walk, spoils, read_bank}
-use Rattle.settings.specs.declared.Compared.{Compared}
+use Rattle.refusal.specs.declared.Refusal.{Refusal}
+use Rattle.refusal.specs.declared.Refusal.TheVariants.{BankLength}
 
 -- equal named header fields
 unfoldable pub same_header : StoreHeader → StoreHeader → Bool
@@ -37,11 +38,10 @@ same_settings (valid b) invalid = false
 same_settings empty y = false
 same_settings invalid y = false
 
--- of any bytes lent: 14 and no where a bank is not 65,536 bytes
-unfoldable pub compared : List ℕ → List ℕ → Compared
+-- of any bytes lent: refused where a bank is not 65,536 bytes
+unfoldable pub compared : List ℕ → List ℕ → Result Bool Refusal
 compared s t =
-    cond (eqb (length s) bank_size && eqb (length t) bank_size) (record { number = 0; same = same_settings (read_bank s) (read_bank t) })
-    (record { number = 14; same = false })
+    cond (eqb (length s) bank_size && eqb (length t) bank_size) (Ok (same_settings (read_bank s) (read_bank t))) (Err BankLength)
 
 -- what yes is proved to be (proofs/Written.antt): two banks of 65,536 bytes that are Valid and would be written with equal bytes, which are header, all
 -- records, and 0xFF up to size (01, 'A commit, from the entry down', 4)
@@ -67,9 +67,9 @@ ends_at (got q) = false
 ends_at (halt c) = not (spoils c)
 
 -- the size of a record that stands there
-unfoldable pub size_here : Item → ℕ
-size_here (got r) = size_of r
-size_here (halt c) = 0
+unfoldable pub size_here : Item → Option ℕ
+size_here (got r) = Some (size_of r)
+size_here (halt c) = None
 
 -- neither walk spoils its bank, and they read equal records
 unfoldable pub same_walks : Walk → Walk → Bool

@@ -2,30 +2,42 @@
 use Prim.Native.Nat.{ℕ, suc, ◌+◌, ◌*◌, ◌-◌, ◌≤◌, ◌<◌}
 use mathlib.Core.Path.{◌≡◌, refl, sym, ap, ap₂, ◌∙◌}
 use mathlib.Core.List.{List, [], ◌∷◌, ◌++◌, append_assoc, append-nil}
-use mathlib.Core.Bool.{true, false, ◌&&◌}
-use mathlib.Core.Option.{none, some}
+use mathlib.Core.Bool.{Bool, true, false, ◌&&◌, cond}
+use Rattle.std.specs.Prelude.{Option, None, Some}
 use native.Mathlib.Omega.{arith}
 use native.Mathlib.Numerals.{add-one}
 use lib.Dec.{leb}
 use lib.ListN.{length, get_or, set, take, drop, length-drop, length-set, drop_of_length-le}
-use lib.Seq.{drop-drop, drop-cons, take-suc-set, take_all}
+use lib.Seq.{drop-drop, drop-cons, take-suc, take-suc-set, take_all, length-take-le}
 use borrow.Author.Tests.{le-leb, lt-leb}
+use borrow.Rule.Slice.PartMut.{put_mid}
+use Rattle.std.specs.Int.{w32, to_le_bytes}
 use Rattle.buffers.specs.Bytes.{over}
+use Rattle.buffers.proofs.Laws.{clash}
 use Rattle.buffers.proofs.LoopSteps.{tail}
 use Rattle.buffers.proofs.OverLaws.{over_none, length_over, over_over}
 use Rattle.bank.specs.Number.{u32_at, le32}
+use Rattle.bank.proofs.NumberLaws.{le_bytes}
+use Rattle.nvram.specs.declared.state.Kind.{Kind}
 use Rattle.nvram.specs.declared.state.Kind.TheVariants.{Empty}
 use Rattle.nvram.specs.declared.state.Entry.{Entry}
 use Rattle.nvram.specs.declared.state.Nvram.{Nvram}
+use Rattle.nvram.specs.Kind.{kind_number}
 use Rattle.nvram.specs.Part.{entry}
-use Rattle.state_bytes.specs.State.{state_head, entry_size, state_size, kind_number, three, four, entry_bytes, entries_bytes, state_bytes, stored, entry_at, entries_at, state_at, kinds_known, read_state}
-use Rattle.state_bytes.proofs.StateLaws.{length_three, length_four, length_entries, length_state, read_known}
+use Rattle.state_bytes.specs.State.{state_head, entry_size, state_size, three, four, entry_bytes, entries_bytes, state_bytes, stored, entry_at, entries_at, state_at, kinds_known, known_entry, all_le32, read_state}
+use Rattle.state_bytes.proofs.StateLaws.{kind_small, kind_back, length_three, length_four, length_entries, length_state, read_known}
 
 -- reading
 
-pub read_short : (bs : List ℕ) → length bs < state_size → read_state bs ≡ none
+pub read_short : (bs : List ℕ) → length bs < state_size → read_state bs ≡ None
 unfolding read_state
 read_short bs h = rw (lt-leb _ _ h)
+
+-- an entry whose kind is named by its number
+pub entry_some : (bs : List ℕ) (k : Kind) (t u : ℕ) → kind_number k ≡ u32_at bs 0 → t ≡ u32_at bs 4 → u ≡ u32_at bs 8 → Some (entry k t u) ≡ known_entry bs
+unfolding entry_at
+entry_some bs k t u e p q =
+    rw (← e, le-leb _ _ (kind_small k), kind_back k, ← p, ← q)
 
 -- i entries are read
 pub record Reading (bs : List ℕ) (es : List Entry) (i : ℕ) : Type 0 where
@@ -41,50 +53,66 @@ reading_none bs es l h = record { entries = refl; known = refl; high = omega ari
 module _ {bs : List ℕ} {es : List Entry} {i : ℕ} (r : Reading bs es i) where
   -- the entry that is next
   module _ (lt : i < 16) where
+    abbrev rest : List ℕ
+    rest = drop (state_head + entry_size * i) bs
+
+    -- what is behind it
+    abbrev behind : List ℕ
+    behind = drop (state_head + entry_size * (i + 1)) bs
+
     left : 16 - i ≡ suc (16 - (i + 1))
     left = omega arith
 
-    next : drop entry_size (drop (state_head + entry_size * i) bs) ≡ drop (state_head + entry_size * (i + 1)) bs
-    next = let e : state_head + entry_size * i + entry_size ≡ state_head + entry_size * (i + 1) = omega arith in drop-drop entry_size (state_head + entry_size * i) bs ∙ ap (λ (n : ℕ). drop n bs) e
+    next : drop entry_size rest ≡ behind
+    next =
+        let e : state_head + entry_size * i + entry_size ≡ state_head + entry_size * (i + 1) = omega arith in
+        drop-drop entry_size (state_head + entry_size * i) bs ∙ ap (λ (n : ℕ). drop n bs) e
 
-    known_next : kinds_known 16 (drop state_head bs) ≡ (leb (u32_at (drop (state_head + entry_size * i) bs) 0) 2 && kinds_known (16 - (i + 1)) (drop (state_head + entry_size * (i + 1)) bs))
+    known_next : kinds_known 16 (drop state_head bs) ≡ (leb (u32_at rest 0) 2 && kinds_known (16 - (i + 1)) behind)
     unfolding kinds_known
     known_next =
-        r.known ∙ ap (λ (n : ℕ). kinds_known n (drop (state_head + entry_size * i) bs)) left
-        ∙ ap (λ (q : List ℕ). leb (u32_at (drop (state_head + entry_size * i) bs) 0) 2 && kinds_known (16 - (i + 1)) q) next
+        r.known ∙ ap (λ (n : ℕ). kinds_known n rest) left
+        ∙ ap (λ (q : List ℕ). leb (u32_at rest 0) 2 && kinds_known (16 - (i + 1)) q) next
 
-    -- the part that the code lends
-    abbrev part : List ℕ
-    part = take (length bs - (state_head + entry_size * i)) (drop (state_head + entry_size * i) bs)
+    -- the code reads it in what it lends
+    abbrev lent : List ℕ
+    lent = take (length bs - (state_head + entry_size * i)) rest
 
-    pub unknown : (k : ℕ) → k ≡ u32_at part 0 → 2 < k → read_state bs ≡ none
+    read : (o : Option Entry) → o ≡ known_entry lent → o ≡ cond (leb (u32_at rest 0) 2) (Some (entry_at rest)) None
+    read o p = p ∙ ap known_entry (tail bs (state_head + entry_size * i))
+
+    pub unknown : None ≡ known_entry lent → read_state bs ≡ None
     unfolding read_state
-    unknown k p h =
-        let u : k ≡ u32_at (drop (state_head + entry_size * i) bs) 0 = p ∙ ap (λ (q : List ℕ). u32_at q 0) (tail bs (state_head + entry_size * i)) in
-        let e : kinds_known 16 (drop state_head bs) ≡ false = known_next ∙ rw (← u, lt-leb _ _ h) in
-        rw (le-leb _ _ r.room, e)
+    unknown p = go (leb (u32_at rest 0) 2) refl (read None p)
+      where
+        go : (t : Bool) → leb (u32_at rest 0) 2 ≡ t → None ≡ cond t (Some (entry_at rest)) None → read_state bs ≡ None
+        go true q h = clash cc
+        go false q h = let e : kinds_known 16 (drop state_head bs) ≡ false = known_next ∙ rw q in rw (le-leb _ _ r.room, e)
 
-    pub reading_more : (k : ℕ) (e : Entry) → k ≡ u32_at part 0 → k ≤ 2 → e ≡ entry_at part → Reading bs (set es i e) (i + 1)
+    pub reading_more : (e : Entry) → Some e ≡ known_entry lent → Reading bs (set es i e) (i + 1)
     unfolding entries_at
-    reading_more k e p h q =
-        let u : k ≡ u32_at (drop (state_head + entry_size * i) bs) 0 = p ∙ ap (λ (q : List ℕ). u32_at q 0) (tail bs (state_head + entry_size * i)) in
-        let v : e ≡ entry_at (drop (state_head + entry_size * i) bs) = q ∙ ap entry_at (tail bs (state_head + entry_size * i)) in
-        let rest = entries_at (16 - (i + 1)) (drop (state_head + entry_size * (i + 1)) bs) in
-        let t : take (i + 1) (set es i e) ≡ take i es ++ (e ∷ []) =
-        ap (λ (n : ℕ). take n (set es i e)) (add-one i) ∙ take-suc-set es i e (omega (arith, r.long)) in
-        record {
-          entries =
-              r.entries ∙ ap (λ (n : ℕ). take i es ++ entries_at n (drop (state_head + entry_size * i) bs)) left
-              ∙ ap₂ (λ (x : Entry) (l : List ℕ). take i es ++ (x ∷ entries_at (16 - (i + 1)) l)) (sym v) next
-              ∙ sym (ap (λ (l : List Entry). l ++ rest) t ∙ append_assoc (take i es) (e ∷ []) rest);
-          known = known_next ∙ rw (← u, le-leb _ _ h);
-          high = omega arith;
-          long = length-set es i e ∙ r.long;
-          room = r.room;
-        }
+    reading_more e p = go (leb (u32_at rest 0) 2) refl (read (Some e) p)
+      where
+        go : (t : Bool) → leb (u32_at rest 0) 2 ≡ t → Some e ≡ cond t (Some (entry_at rest)) None → Reading bs (set es i e) (i + 1)
+        go false q h = clash cc
+        go true q h =
+            let v : entry_at rest ≡ e = cc in
+            let after = entries_at (16 - (i + 1)) behind in
+            let t : take (i + 1) (set es i e) ≡ take i es ++ (e ∷ []) =
+            ap (λ (n : ℕ). take n (set es i e)) (add-one i) ∙ take-suc-set es i e (omega (arith, r.long)) in
+            record {
+              entries =
+                  r.entries ∙ ap (λ (n : ℕ). take i es ++ entries_at n rest) left
+                  ∙ ap₂ (λ (x : Entry) (l : List ℕ). take i es ++ (x ∷ entries_at (16 - (i + 1)) l)) v next
+                  ∙ sym (ap (λ (l : List Entry). l ++ after) t ∙ append_assoc (take i es) (e ∷ []) after);
+              known = known_next ∙ rw q;
+              high = omega arith;
+              long = length-set es i e ∙ r.long;
+              room = r.room;
+            }
 
   pub read_all : (n a c b : ℕ) → i ≡ 16 → n ≡ u32_at bs 0 → a ≡ u32_at bs 4 → c ≡ u32_at bs 8 → b ≡ u32_at bs 12
-      → read_state bs ≡ some (record { n = n; active = a; tally = record { clock = c; barrel = b }; banks = es })
+      → read_state bs ≡ Some (record { n = n; active = a; tally = record { clock = c; barrel = b }; banks = es })
   unfolding kinds_known entries_at state_at
   read_all n a c b e p q u v =
       let known : kinds_known 16 (drop state_head bs) ≡ true =
@@ -94,22 +122,53 @@ module _ {bs : List ℕ} {es : List Entry} {i : ℕ} (r : Reading bs es i) where
       ∙ append-nil (take 16 es)
       ∙ take_all 16 es (omega (arith, r.long)) in
       read_known bs r.room known
-      ∙ (λ j. some (record { n = sym p j; active = sym q j; tally = record { clock = sym u j; barrel = sym v j }; banks = banks j }))
+      ∙ (λ j. Some (record { n = sym p j; active = sym q j; tally = record { clock = sym u j; barrel = sym v j }; banks = banks j }))
 
 -- writing
 
--- numbers joined, byte by byte
-pub joined_three : (x y z : List ℕ) (a b c : ℕ) → x ≡ le32 a → y ≡ le32 b → z ≡ le32 c
-    → get_or x 0 0 ∷ get_or x 1 0 ∷ get_or x 2 0 ∷ get_or x 3 0 ∷ get_or y 0 0 ∷ get_or y 1 0 ∷ get_or y 2 0 ∷ get_or y 3 0 ∷ get_or z 0 0 ∷ get_or z 1 0 ∷ get_or z 2 0 ∷ get_or z 3 0 ∷ []
-    ≡ three a b c
-unfolding le32
-joined_three x y z a b c p q r = cc
+-- numbers one behind the other
 
-pub joined_four : (x y : List ℕ) (a b c d : ℕ) → x ≡ le32 a → y ≡ three b c d
-    → get_or x 0 0 ∷ get_or x 1 0 ∷ get_or x 2 0 ∷ get_or x 3 0 ∷ get_or y 0 0 ∷ get_or y 1 0 ∷ get_or y 2 0 ∷ get_or y 3 0 ∷ get_or y 4 0 ∷ get_or y 5 0 ∷ get_or y 6 0 ∷ get_or y 7 0 ∷ get_or y 8 0 ∷ get_or y 9 0 ∷ get_or y 10 0 ∷ get_or y 11 0 ∷ []
-    ≡ four a b c d
+length_le32 : (ns : List ℕ) → length (all_le32 ns) ≡ 4 * length ns
+unfolding all_le32 le32
+length_le32 [] = refl
+length_le32 (n ∷ ns) = omega (arith, length_le32 ns)
+
+le32_append : (ns : List ℕ) (n : ℕ) → all_le32 (ns ++ (n ∷ [])) ≡ all_le32 ns ++ le32 n
+unfolding all_le32 le32
+le32_append [] n = refl
+le32_append (m ∷ ns) n = ap (λ (q : List ℕ). le32 m ++ q) (le32_append ns n)
+
+le32_next : (ns : List ℕ) (i : ℕ) → i < length ns → all_le32 (take (i + 1) ns) ≡ all_le32 (take i ns) ++ le32 (get_or ns i 0)
+le32_next ns i h = ap (λ (n : ℕ). all_le32 (take n ns)) (add-one i) ∙ ap all_le32 (take-suc ns i 0 h) ∙ le32_append (take i ns) (get_or ns i 0)
+
+pub put_none : (at : ℕ) (ns w : List ℕ) → w ≡ over at (all_le32 (take 0 ns)) w
+unfolding all_le32
+put_none at ns w = sym (over_none at w)
+
+-- bytes that a part in the middle is given back as
+put_over : (p m : ℕ) (w y : List ℕ) → m ≡ length y → put_mid p m w y ≡ over p y w
+unfolding over
+put_over p m w y e =
+    let n : p + m ≡ p + length y = omega arith in
+    ap (λ (q : List ℕ). take p w ++ (y ++ q)) (drop-drop m p w ∙ ap (λ (k : ℕ). drop k w) n)
+
+pub put_more : (at i : ℕ) (ns w₀ w x y : List ℕ) (k : ℕ) → length ns ≡ k → i < k → at + 4 * k ≤ length w₀ → w ≡ over at (all_le32 (take i ns)) w₀
+    → x ≡ to_le_bytes w32 (get_or ns i 0)
+    → y ≡ x
+    → put_mid (at + 4 * i) (at + 4 * i + 4 - (at + 4 * i)) w y ≡ over at (all_le32 (take (i + 1) ns)) w₀
 unfolding le32
-joined_four x y a b c d p q = cc
+put_more at i ns w₀ w x y k l h r e p q =
+    let b = le32 (get_or ns i 0) in
+    let front = all_le32 (take i ns) in
+    let z : y ≡ b = q ∙ p ∙ le_bytes (get_or ns i 0) in
+    let long : length front ≡ 4 * i = length_le32 (take i ns) ∙ omega (arith, length-take-le i ns (omega arith)) in
+    put_over (at + 4 * i) (at + 4 * i + 4 - (at + 4 * i)) w y (omega (arith, ap length z))
+    ∙ ap₂ (over (at + 4 * i)) z e
+    ∙ over_over at (at + 4 * i) front b w₀ (omega arith) (omega arith)
+    ∙ ap (λ (q : List ℕ). over at q w₀) (sym (le32_next ns i (omega arith)))
+
+pub put_all : (at k i : ℕ) (ns w₀ w : List ℕ) → k ≤ i → length ns ≡ k → w ≡ over at (all_le32 (take i ns)) w₀ → w ≡ over at (all_le32 ns) w₀
+put_all at k i ns w₀ w h l e = e ∙ ap (λ (q : List ℕ). over at (all_le32 q) w₀) (take_all i ns (omega arith))
 
 -- i entries are written
 pub record Writing (es : List Entry) (w₀ w : List ℕ) (i : ℕ) : Type 0 where
@@ -126,17 +185,13 @@ module _ {es : List Entry} {w₀ w : List ℕ} {i : ℕ} (r : Writing es w₀ w 
   abbrev x : Entry
   x = get_or es i (entry Empty 0 0)
 
-  -- there is room for the next entry
-  pub entry_room : (a b c : ℕ) (q : List ℕ) → q ≡ three a b c → i < 16 → state_head + entry_size * i + length q ≤ length w
-  entry_room a b c q e lt = omega (arith, ap length e, length_three a b c, r.room, r.same)
-
-  pub writing_more : (k : ℕ) (numbers w₁ : List ℕ) → i < 16 → k ≡ kind_number x.kind → numbers ≡ three k x.total x.usable
-      → w₁ ≡ over (state_head + entry_size * i) numbers w
+  pub writing_more : (k : ℕ) (w₁ : List ℕ) → i < 16 → k ≡ kind_number x.kind
+      → w₁ ≡ over (state_head + entry_size * i) (all_le32 (k ∷ x.total ∷ x.usable ∷ [])) w
       → Writing es w₀ w₁ (i + 1)
-  unfolding entries_bytes
-  writing_more k numbers w₁ lt p t q =
+  unfolding entries_bytes all_le32 le32
+  writing_more k w₁ lt p q =
       let e : w₁ ≡ over (state_head + entry_size * i) (entry_bytes x) w =
-      q ∙ ap (λ (y : List ℕ). over (state_head + entry_size * i) y w) (t ∙ ap (λ (n : ℕ). three n x.total x.usable) p) in
+      q ∙ ap (λ (n : ℕ). over (state_head + entry_size * i) (three n x.total x.usable) w) p in
       let todo = entries_bytes (drop (i + 1) es) in
       let lx : length (entry_bytes x) ≡ entry_size = length_three (kind_number x.kind) x.total x.usable in
       let bound : state_head + entry_size * (i + 1) + length todo ≤ length w =
@@ -155,12 +210,11 @@ module _ {es : List Entry} {w₀ w : List ℕ} {i : ℕ} (r : Writing es w₀ w 
         room = r.room;
       }
 
-  pub written : (s : Nvram) (numbers bs : List ℕ) → i ≡ 16 → es ≡ s.banks → state_size ≤ length bs
-      → numbers ≡ four s.n s.active s.tally.clock s.tally.barrel
-      → w₀ ≡ over 0 numbers bs
+  pub written : (s : Nvram) (bs : List ℕ) → i ≡ 16 → es ≡ s.banks → state_size ≤ length bs
+      → w₀ ≡ over 0 (all_le32 (s.n ∷ s.active ∷ s.tally.clock ∷ s.tally.barrel ∷ [])) bs
       → w ≡ stored s bs
-  unfolding over stored state_bytes entries_bytes
-  written s numbers bs n b h t e =
+  unfolding over stored state_bytes entries_bytes all_le32 le32
+  written s bs n b h e =
       let head = four s.n s.active s.tally.clock s.tally.barrel in
       let lh : length head ≡ state_head = length_four s.n s.active s.tally.clock s.tally.barrel in
       let le : length (entries_bytes es) ≡ 192 = omega (arith, r.long, length_entries es) in
@@ -169,6 +223,6 @@ module _ {es : List Entry} {w₀ w : List ℕ} {i : ℕ} (r : Writing es w₀ w 
       ∙ ap (λ (l : List Entry). over (state_head + entry_size * i) (entries_bytes l) w) (sym (drop_of_length-le es {i = i} (omega (arith, r.long))))
       ∙ r.rest in
       let whole : 0 + length (state_bytes s) ≡ state_size = omega (arith, length_state s (sym (ap length b) ∙ r.long)) in
-      done ∙ ap (over state_head (entries_bytes es)) (e ∙ ap (λ (y : List ℕ). over 0 y bs) t) ∙ over_over 0 state_head head (entries_bytes es) bs (omega arith) (omega arith)
+      done ∙ ap (over state_head (entries_bytes es)) e ∙ over_over 0 state_head head (entries_bytes es) bs (omega arith) (omega arith)
       ∙ ap (λ (l : List Entry). over 0 (head ++ entries_bytes l) bs) b
       ∙ ap (λ (k : ℕ). state_bytes s ++ drop k bs) whole

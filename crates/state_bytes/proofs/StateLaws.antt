@@ -3,7 +3,7 @@ use Prim.Native.Nat.{ℕ, zero, suc, ◌+◌, ◌*◌, ◌≤◌, ◌<◌}
 use mathlib.Core.Path.{◌≡◌, refl, sym, ap, ap₂, ◌∙◌, subst}
 use mathlib.Core.List.{List, [], ◌∷◌, ◌++◌, append_assoc}
 use mathlib.Core.Bool.{Bool, true, false, ◌&&◌, cond}
-use mathlib.Core.Option.{none, some}
+use Rattle.std.specs.Prelude.{None, Some}
 use native.Mathlib.Omega.{arith}
 use lib.Dec.{leb}
 use lib.ListN.{length, drop, replicate, length-append, length-drop}
@@ -21,8 +21,9 @@ use Rattle.nvram.specs.declared.state.Kind.{Kind}
 use Rattle.nvram.specs.declared.state.Kind.TheVariants.{Empty, Invalid, Valid}
 use Rattle.nvram.specs.declared.state.Entry.{Entry}
 use Rattle.nvram.specs.declared.state.Nvram.{Nvram}
+use Rattle.nvram.specs.Kind.{kind_number}
 use Rattle.nvram.specs.Contract.{no_state}
-use Rattle.state_bytes.specs.State.{state_head, entry_size, state_size, kind_number, three, four, entry_bytes, entries_bytes, state_bytes, stored, kind_of, entry_at, entries_at, state_at, kinds_known, read_state, FineEntries, FineState}
+use Rattle.state_bytes.specs.State.{state_head, entry_size, state_size, three, four, entry_bytes, entries_bytes, state_bytes, stored, kind_of, entry_at, entries_at, state_at, kinds_known, read_state, FineEntries, FineState}
 
 -- lengths
 
@@ -82,12 +83,12 @@ unfolding u32_at le32
 four_back a b c d q x y z v =
     let t = three_back b c d q y z v in record { first = u32_sum a x; second = t.first; third = t.second; fourth = t.third; rest = t.rest }
 
-kind_small : (k : Kind) → kind_number k ≤ 2
+pub kind_small : (k : Kind) → kind_number k ≤ 2
 kind_small Empty = omega arith
 kind_small Invalid = omega arith
 kind_small Valid = omega arith
 
-kind_back : (k : Kind) → kind_of (kind_number k) ≡ k
+pub kind_back : (k : Kind) → kind_of (kind_number k) ≡ k
 kind_back Empty = refl
 kind_back Invalid = refl
 kind_back Valid = refl
@@ -117,11 +118,11 @@ entries_back (e ∷ es) q f =
     ∙ ap₂ (λ (x : Entry) (xs : List Entry). x ∷ xs) (entry_back e p f.0.0 f.0.1)
     (ap (entries_at (length es)) (entry_three e p f.0.0 f.0.1).rest ∙ entries_back es q f.1)
 
-pub read_known : (bs : List ℕ) → state_size ≤ length bs → kinds_known 16 (drop state_head bs) ≡ true → read_state bs ≡ some (state_at bs)
+pub read_known : (bs : List ℕ) → state_size ≤ length bs → kinds_known 16 (drop state_head bs) ≡ true → read_state bs ≡ Some (state_at bs)
 unfolding read_state
 read_known bs h k = rw (le-leb _ _ h, k)
 
-pub state_back : (s : Nvram) (rest : List ℕ) → FineState s → read_state (state_bytes s ++ rest) ≡ some s
+pub state_back : (s : Nvram) (rest : List ℕ) → FineState s → read_state (state_bytes s ++ rest) ≡ Some s
 unfolding state_at state_bytes
 state_back s rest f =
     let es = s.banks in
@@ -136,10 +137,10 @@ state_back s rest f =
     let banks : entries_at 16 (drop state_head (head ++ q)) ≡ es =
     ap₂ entries_at (sym f.banks_long) t.rest ∙ entries_back es rest f.banks_fine in
     ap read_state (append_assoc head (entries_bytes es) rest) ∙ read_known (head ++ q) room known
-    ∙ (λ i. some (record { n = t.first i; active = t.second i; tally = record { clock = t.third i; barrel = t.fourth i }; banks = banks i }))
+    ∙ (λ i. Some (record { n = t.first i; active = t.second i; tally = record { clock = t.third i; barrel = t.fourth i }; banks = banks i }))
 
 -- what one call stores, the next reads
-pub stored_back : (s : Nvram) (bs : List ℕ) → FineState s → read_state (stored s bs) ≡ some s
+pub stored_back : (s : Nvram) (bs : List ℕ) → FineState s → read_state (stored s bs) ≡ Some s
 unfolding stored
 stored_back s bs f = state_back s (drop state_size bs) f
 
@@ -150,11 +151,11 @@ pub record Read (bs : List ℕ) (s : Nvram) : Type 0 where
   pub known : kinds_known 16 (drop state_head bs) ≡ true
   pub is : s ≡ state_at bs
 
-pub read_is : (bs : List ℕ) (s : Nvram) → read_state bs ≡ some s → Read bs s
+pub read_is : (bs : List ℕ) (s : Nvram) → read_state bs ≡ Some s → Read bs s
 unfolding read_state
 read_is bs s e = go (leb state_size (length bs)) (kinds_known 16 (drop state_head bs)) refl refl e
   where
-    go : (a b : Bool) → leb state_size (length bs) ≡ a → kinds_known 16 (drop state_head bs) ≡ b → cond (a && b) (some (state_at bs)) none ≡ some s → Read bs s
+    go : (a b : Bool) → leb state_size (length bs) ≡ a → kinds_known 16 (drop state_head bs) ≡ b → cond (a && b) (Some (state_at bs)) None ≡ Some s → Read bs s
     go true true p q e = record { room = leb-true _ _ p; known = q; is = cc }
     go true false p q e = clash cc
     go false b p q e = clash cc
@@ -204,7 +205,7 @@ entries_split (suc n) bs k h e = go (leb (u32_at bs 0) 2) refl (entries_split n 
         ∙ entry_split bs k (omega arith) (leb-true _ _ p)
     go false p f e = clash cc
 
-pub bytes_back : (bs : List ℕ) (s : Nvram) → Bytes bs → read_state bs ≡ some s → stored s bs ≡ bs
+pub bytes_back : (bs : List ℕ) (s : Nvram) → Bytes bs → read_state bs ≡ Some s → stored s bs ≡ bs
 unfolding stored state_bytes state_at
 bytes_back bs s k e =
     let r = read_is bs s e in
@@ -220,7 +221,7 @@ unfolding entries_at entry_at
 read_entries_fine zero bs k = tt
 read_entries_fine (suc n) bs k = ((u32_lt bs 4 k, u32_lt bs 8 k), read_entries_fine n (drop entry_size bs) (below_drop entry_size bs k))
 
-pub read_state_fine : (bs : List ℕ) (s : Nvram) → Bytes bs → read_state bs ≡ some s → FineState s
+pub read_state_fine : (bs : List ℕ) (s : Nvram) → Bytes bs → read_state bs ≡ Some s → FineState s
 unfolding state_at
 read_state_fine bs s k e =
     let fine : FineState (state_at bs) =

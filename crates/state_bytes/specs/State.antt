@@ -1,7 +1,6 @@
 -- The state as bytes: n, active, the clock's tally, the barrel's, then 16 entries of kind (0 Empty, 1 Invalid, 2 Valid), total and usable; each number
 -- four bytes, least first.
-use Rattle.std.specs.Prelude.{ℕ, zero, suc, ◌+◌, ◌*◌, ◌<◌, ◌≡◌, List, [], ◌∷◌, ◌++◌, Bool, true, false, ◌&&◌, cond, length, drop, eqb, leb}
-use Rattle.std.proofs.Math.Option.{Option, none, some}
+use Rattle.std.specs.Prelude.{ℕ, zero, suc, ◌+◌, ◌*◌, ◌<◌, ◌≡◌, List, [], ◌∷◌, ◌++◌, Bool, true, ◌&&◌, cond, length, drop, eqb, leb, Option, None, Some}
 use Rattle.tally.specs.declared.Caller.{Caller}
 use Rattle.tally.specs.declared.Tally.{Tally}
 use Rattle.tally.specs.Tally.{tally_of}
@@ -10,9 +9,8 @@ use Rattle.nvram.specs.declared.state.Kind.{Kind}
 use Rattle.nvram.specs.declared.state.Kind.TheVariants.{Empty, Invalid, Valid}
 use Rattle.nvram.specs.declared.state.Entry.{Entry}
 use Rattle.nvram.specs.declared.state.Nvram.{Nvram}
+use Rattle.nvram.specs.Kind.{kind_number}
 use Rattle.nvram.specs.Part.{entry}
-use Rattle.nvram.specs.Contract.{no_state}
-use Rattle.state_bytes.specs.declared.Loaded.{Loaded}
 
 -- bytes in front of the entries, of an entry, and of a state
 
@@ -27,10 +25,10 @@ state_size = state_head + 16 * entry_size
 
 -- written
 
-abbrev pub kind_number : Kind → ℕ
-kind_number Empty = 0
-kind_number Invalid = 1
-kind_number Valid = 2
+-- numbers, one behind the other
+unfoldable pub all_le32 : List ℕ → List ℕ
+all_le32 [] = []
+all_le32 (n ∷ ns) = le32 n ++ all_le32 ns
 
 abbrev pub three : ℕ → ℕ → ℕ → List ℕ
 three a b c = le32 a ++ (le32 b ++ le32 c)
@@ -60,6 +58,10 @@ kind_of k = cond (eqb k 0) Empty (cond (eqb k 1) Invalid Valid)
 unfoldable pub entry_at : List ℕ → Entry
 entry_at bs = entry (kind_of (u32_at bs 0)) (u32_at bs 4) (u32_at bs 8)
 
+-- nothing where no kind has its number
+abbrev pub known_entry : List ℕ → Option Entry
+known_entry bs = cond (leb (u32_at bs 0) 2) (Some (entry_at bs)) None
+
 unfoldable pub entries_at : ℕ → List ℕ → List Entry
 entries_at zero bs = []
 entries_at (suc n) bs = entry_at bs ∷ entries_at n (drop entry_size bs)
@@ -77,12 +79,7 @@ kinds_known (suc n) bs = leb (u32_at bs 0) 2 && kinds_known n (drop entry_size b
 
 -- nothing where the bytes are too few or a kind number is unknown; bytes past the state are ignored
 unfoldable pub read_state : List ℕ → Option Nvram
-read_state bs = cond (leb state_size (length bs) && kinds_known 16 (drop state_head bs)) (some (state_at bs)) none
-
--- as the code hands it on: zeros where there is no state
-abbrev pub loaded : Option Nvram → Loaded
-loaded none = record { ok = false; state = no_state }
-loaded (some s) = record { ok = true; state = s }
+read_state bs = cond (leb state_size (length bs) && kinds_known 16 (drop state_head bs)) (Some (state_at bs)) None
 
 -- what every state is that the code holds: 16 entries, and numbers of four bytes
 

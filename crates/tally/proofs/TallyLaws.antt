@@ -3,39 +3,39 @@
 use Prim.Native.Nat.{ℕ, ◌+◌, ◌<◌}
 use mathlib.Core.Path.{◌≡◌, refl, sym, ap, ◌∙◌}
 use mathlib.Core.Bool.{Bool, true, false}
-use mathlib.Core.Option.{Option, none, some}
+use Rattle.std.specs.Prelude.{Option, None, Some}
 use native.Mathlib.Omega.{arith}
 use Rattle.tally.specs.declared.Caller.{Caller}
 use Rattle.tally.specs.declared.Caller.TheVariants.{Clock, Barrel}
 use Rattle.tally.specs.declared.Tally.{Tally}
 use Rattle.tally.specs.Tally.{stopped, counted_if, is_own, tally_of, counted}
 
--- one more, as the code puts it together
+-- one request more of a caller
 module _ (t : Tally) (k : ℕ) {caller : Caller} where
   pub clock_counted : caller ≡ Clock → k ≡ stopped (t.clock + 1) → (offset : ℕ)
-      → record { clock = k; barrel = t.barrel } ≡ counted (some caller) (some offset) t
+      → record { clock = k; barrel = t.barrel } ≡ counted (Some caller) (Some offset) t
   clock_counted e h offset =
-      (λ i. record { clock = h i; barrel = t.barrel }) ∙ ap (λ (x : Caller). counted (some x) (some offset) t) (sym e)
+      (λ i. record { clock = h i; barrel = t.barrel }) ∙ ap (λ (x : Caller). counted (Some x) (Some offset) t) (sym e)
 
   pub barrel_counted : caller ≡ Barrel → k ≡ stopped (t.barrel + 1) → (offset : ℕ)
-      → record { clock = t.clock; barrel = k } ≡ counted (some caller) (some offset) t
+      → record { clock = t.clock; barrel = k } ≡ counted (Some caller) (Some offset) t
   barrel_counted e h offset =
-      (λ i. record { clock = t.clock; barrel = h i }) ∙ ap (λ (x : Caller). counted (some x) (some offset) t) (sym e)
+      (λ i. record { clock = t.clock; barrel = h i }) ∙ ap (λ (x : Caller). counted (Some x) (Some offset) t) (sym e)
 
 -- one tally
 
-none_counts : (own : Bool) (k : ℕ) → counted_if own none k ≡ k
+none_counts : (own : Bool) (k : ℕ) → counted_if own None k ≡ k
 none_counts false k = refl
 none_counts true k = refl
 
 pub counted_fits : (own : Bool) (e : Option ℕ) (k : ℕ) → k < 4294967296 → counted_if own e k < 4294967296
 counted_fits false e k h = h
-counted_fits true none k h = h
-counted_fits true (some offset) k h = omega arith
+counted_fits true None k h = h
+counted_fits true (Some offset) k h = omega arith
 
 -- both
 
-pub counted_none : (o : Option Caller) (t : Tally) → counted o none t ≡ t
+pub counted_none : (o : Option Caller) (t : Tally) → counted o None t ≡ t
 counted_none o t = λ i. record { clock = none_counts (is_own Clock o) t.clock i; barrel = none_counts (is_own Barrel o) t.barrel i }
 
 pub counted_tally : (caller : Caller) (o : Option Caller) (e : Option ℕ) (t : Tally) → tally_of caller (counted o e t) ≡ counted_if (is_own caller o) e (tally_of caller t)

@@ -1,6 +1,5 @@
 -- Erase requests counted by caller (01, 'A commit, from the entry down'; 02, N7): those in its own commits since opening, up to a stop.
-use Rattle.std.specs.Prelude.{ℕ, ◌+◌, min, Bool, true, false}
-use Rattle.std.proofs.Math.Option.{Option, none, some}
+use Rattle.std.specs.Prelude.{ℕ, ◌+◌, min, Bool, true, false, Option, None, Some}
 use Rattle.tally.specs.declared.Caller.{Caller}
 use Rattle.tally.specs.declared.Caller.TheVariants.{Clock, Barrel}
 use Rattle.tally.specs.declared.Tally.{Tally}
@@ -12,16 +11,16 @@ stopped k = min k 4294967295
 -- a caller's tally k after a call: whether that is its own commit, and the erase request, if there is one
 abbrev pub counted_if : Bool → Option ℕ → ℕ → ℕ
 counted_if false e k = k
-counted_if true none k = k
-counted_if true (some offset) k = stopped (k + 1)
+counted_if true None k = k
+counted_if true (Some offset) k = stopped (k + 1)
 
 -- whether somebody's commit, or nobody's, is this caller's own
 abbrev pub is_own : Caller → Option Caller → Bool
-is_own caller none = false
-is_own Clock (some Clock) = true
-is_own Clock (some Barrel) = false
-is_own Barrel (some Clock) = false
-is_own Barrel (some Barrel) = true
+is_own caller None = false
+is_own Clock (Some Clock) = true
+is_own Clock (Some Barrel) = false
+is_own Barrel (Some Clock) = false
+is_own Barrel (Some Barrel) = true
 
 -- the tally of a caller
 abbrev pub tally_of : Caller → Tally → ℕ

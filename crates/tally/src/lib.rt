@@ -1,9 +1,8 @@
 // Erase requests counted by caller: 02, N7.
 #![tactic(auto)]
 
-ghost use Rattle.std.specs.Prelude.{◌≡◌, ℕ, ◌+◌};
-ghost use Rattle.std.proofs.Math.Option.{some};
-ghost use Rattle.tally.specs.Tally.{stopped, no_tally, counted, total_of};
+ghost use Rattle.std.specs.Prelude.{◌≡◌, ℕ, Some};
+ghost use Rattle.tally.specs.Tally.{no_tally, counted, total_of};
 
 // Who commits.
 #[derive(Clone, Copy)]
@@ -13,44 +12,31 @@ pub enum Caller {
 }
 
 // Erase requests in each caller's commits since opening.
-#[derive(Clone, Copy)]
+#[derive(Clone, Copy, Default)]
 pub struct Tally {
     pub clock: u32,
     pub barrel: u32,
-}
-
-fn one_more(tally: u32) -> u32
-    ensures { result ≡ stopped (tally + 1) }
-{
-    if tally == 4294967295 {
-        4294967295
-    } else {
-        tally + 1
-    }
 }
 
 impl Tally {
     pub fn none() -> Tally
         ensures { result ≡ no_tally }
     {
-        Tally {
-            clock: 0,
-            barrel: 0,
-        }
+        Tally::default()
     }
 
     // With one request more, for whatever bank, in a commit of this caller.
     pub fn count(self, caller: Caller) -> Tally
-        ensures { (offset : ℕ) → result ≡ counted (some caller) (some offset) self }
+        ensures { (offset : ℕ) → result ≡ counted (Some caller) (Some offset) self }
     {
         match caller {
             Caller::Clock => Tally {
-                clock: one_more(self.clock),
-                barrel: self.barrel,
+                clock: self.clock.saturating_add(1),
+                ..self
             },
             Caller::Barrel => Tally {
-                clock: self.clock,
-                barrel: one_more(self.barrel),
+                barrel: self.barrel.saturating_add(1),
+                ..self
             },
         }
     }
@@ -59,10 +45,6 @@ impl Tally {
     pub fn total(self) -> u32
         ensures { result ≡ total_of self }
     {
-        if 4294967295 - self.barrel < self.clock {
-            4294967295
-        } else {
-            self.clock + self.barrel
-        }
+        self.clock.saturating_add(self.barrel)
     }
 }

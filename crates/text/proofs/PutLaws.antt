@@ -4,72 +4,71 @@ use Prim.Native.Nat.{ℕ, ◌+◌, ◌-◌, ◌≤◌, ◌<◌}
 use mathlib.Core.Path.{◌≡◌, refl, sym, ap, ◌∙◌}
 use mathlib.Core.List.{List, [], ◌∷◌, ◌++◌}
 use native.Mathlib.Omega.{arith}
-use lib.ListN.{length, take, drop, set, length-append}
-use lib.Seq.{length-take-le}
+use lib.ListN.{length, length-append}
+use lib.Seq.{length-take-le, drop-drop}
 use borrow.Author.Tests.{le-leb, lt-leb}
 use borrow.Rule.Slice.PartMut.{put_mid}
-use Rattle.buffers.specs.Bytes.{onto, over}
-use Rattle.buffers.proofs.OverLaws.{length_over, over_none, over_over, over_set, over_copy}
+use Rattle.buffers.specs.Bytes.{over}
+use Rattle.buffers.proofs.OverLaws.{length_over, over_none, over_over}
+use Rattle.text.specs.declared.Writer.{Writer}
 use Rattle.text.specs.Text.{field, line}
 use Rattle.text.specs.Put.{Room, Put, IsPrefixLen, printed_length, printed_out}
 
-pub length_put : {at p : ℕ} {x w u : List ℕ} → Put at p x w u → length u ≡ length w
-length_put {at} {p} {x} {w} {u} a = ap length a.left ∙ length_over at x w (omega arith)
+pub length_put : {v w : Writer} {x : List ℕ} → Put v w x → length w.out.now ≡ length v.out.now
+length_put {v} {w} {x} a = ap length a.left ∙ length_over v.at x v.out.now (omega arith)
 
-pub put_none : (at : ℕ) (w : List ℕ) → at ≤ length w → Put at at [] w w
-put_none at w h = record { left = sym (over_none at w); ends = omega arith; room = h }
+pub put_none : (v : Writer) → v.at ≤ length v.out.now → Put v v []
+put_none v h = record { same = refl; left = sym (over_none v.at v.out.now); ends = omega arith; room = h }
 
-pub put_one : (at b : ℕ) (w : List ℕ) → at < length w → Put at (at + 1) (b ∷ []) w (set w at b)
-put_one at b w h = record { left = over_set at b w h; ends = refl; room = omega arith }
+-- a text copied onto as many bytes from a place on
+pub over_mid : (at : ℕ) (x w y : List ℕ) → at + length x ≤ length w → y ≡ x → put_mid at (at + length x - at) w y ≡ over at x w
+unfolding over
+over_mid at x w y h e = let q : at + length x - at ≡ length x = omega arith in rw (e, q, drop-drop (length x) at w)
 
--- `buffers::copy` onto the bytes from a place on
-pub put_copy : (at : ℕ) (x w y : List ℕ) → Room at x w → y ≡ onto x (take (length w - at) (drop at w))
-    → Put at (at + length x) x w (put_mid at (length w - at) w y)
-put_copy at x w y r e = record { left = over_copy at x w y r.fits e; ends = refl; room = r.fits }
-
--- a run, and a run from its end on
-pub join : {at p q : ℕ} {x y w u v : List ℕ} → Put at p x w u → Put p q y u v → Put at q (x ++ y) w v
-join {at} {p} {q} {x} {y} {w} {u} {v} a b =
-    let l : length u ≡ length w = length_put a in
-    let e : over p y (over at x w) ≡ over at (x ++ y) w =
-    ap (λ (k : ℕ). over k y (over at x w)) a.ends ∙ over_over at (at + length x) x y w refl (omega arith) in
+-- a run, and a run behind it
+pub join : {u v w : Writer} {x y : List ℕ} → Put u v x → Put v w y → Put u w (x ++ y)
+join {u} {v} {w} {x} {y} a b =
+    let l : length v.out.now ≡ length u.out.now = length_put a in
+    let e : over v.at y (over u.at x u.out.now) ≡ over u.at (x ++ y) u.out.now =
+    ap (λ (k : ℕ). over k y (over u.at x u.out.now)) a.ends ∙ over_over u.at (u.at + length x) x y u.out.now refl (omega arith) in
     record {
-      left = b.left ∙ ap (over p y) a.left ∙ e;
+      same = b.same ∙ a.same;
+      left = b.left ∙ ap (over v.at y) a.left ∙ e;
       ends = omega (arith, length-append x y);
       room = omega arith;
     }
 
 -- room for two runs is room for the first, and behind it for the second
-pub front : {at : ℕ} {x w : List ℕ} (y : List ℕ) → Room at (x ++ y) w → Room at x w
-front {at} {x} {w} y r = record { fits = omega (arith, r.fits, length-append x y) }
+pub front : {v : Writer} {x : List ℕ} (y : List ℕ) → Room v (x ++ y) → Room v x
+front {v} {x} y r = record { fits = omega (arith, r.fits, length-append x y) }
 
-pub back : {at p : ℕ} {x w u : List ℕ} (y : List ℕ) → Put at p x w u → Room at (x ++ y) w → Room p y u
-back {at} {p} {x} {w} {u} y a r = record { fits = omega (arith, r.fits, length-append x y, length_put a) }
+pub back : {v w : Writer} {x : List ℕ} (y : List ℕ) → Put v w x → Room v (x ++ y) → Room w y
+back {v} {w} {x} y a r = record { fits = omega (arith, r.fits, length-append x y, length_put a) }
 
-pub of_field : {at : ℕ} {f w : List ℕ} (end : ℕ) → Room at (field f end) w → Room at f w
+pub of_field : {v : Writer} {f : List ℕ} (end : ℕ) → Room v (field f end) → Room v f
 unfolding field
 of_field end r = front (end ∷ []) r
 
-pub behind_field : {at p end : ℕ} {f w u : List ℕ} → Put at p f w u → Room at (field f end) w → Room p (end ∷ []) u
+pub behind_field : {v w : Writer} {end : ℕ} {f : List ℕ} → Put v w f → Room v (field f end) → Room w (end ∷ [])
 unfolding field
 behind_field {end = end} a r = back (end ∷ []) a r
 
 -- room for a line of fields
-pub record Rooms (at : ℕ) (fs : List (List ℕ)) (w : List ℕ) : Type 0 where
-  pub all : Room at (line fs) w
+pub record Rooms (v : Writer) (fs : List (List ℕ)) : Type 0 where
+  pub all : Room v (line fs)
 
-pub fields : {at : ℕ} {w : List ℕ} (fs : List (List ℕ)) → Room at (line fs) w → Rooms at fs w
+pub fields : {v : Writer} (fs : List (List ℕ)) → Room v (line fs) → Rooms v fs
 fields fs r = record { all = r }
 
-pub first : {at : ℕ} {f g w : List ℕ} {fs : List (List ℕ)} → Rooms at (f ∷ g ∷ fs) w → Room at (field f 0x20) w
+pub first : {v : Writer} {f g : List ℕ} {fs : List (List ℕ)} → Rooms v (f ∷ g ∷ fs) → Room v (field f 0x20)
 unfolding line
 first {g = g} {fs = fs} r = front (line (g ∷ fs)) r.all
 
-pub next : {at p : ℕ} {f g w u : List ℕ} {fs : List (List ℕ)} → Put at p (field f 0x20) w u → Rooms at (f ∷ g ∷ fs) w → Rooms p (g ∷ fs) u
+pub next : {v w : Writer} {f g : List ℕ} {fs : List (List ℕ)} → Put v w (field f 0x20) → Rooms v (f ∷ g ∷ fs) → Rooms w (g ∷ fs)
 unfolding line
 next {g = g} {fs = fs} a r = record { all = back (line (g ∷ fs)) a r.all }
 
-pub last : {at : ℕ} {f w : List ℕ} → Rooms at (f ∷ []) w → Room at (field f 0x0A) w
+pub last : {v : Writer} {f : List ℕ} → Rooms v (f ∷ []) → Room v (field f 0x0A)
 unfolding line
 last r = r.all
 
@@ -82,9 +81,12 @@ module _ (n : ℕ) (x w : List ℕ) where
   unfolding printed_length printed_out
   left_alone h = (prefix_len_of_le 0 w (omega arith), (simp (lt-leb n (length w) h), simp (lt-leb n (length w) h)))
 
-  pub left_printed : {m : ℕ} {y u : List ℕ} → n ≤ length w → x ≡ y → Put 0 m y w u → IsPrefixLen m u × ((m ≡ printed_length n x w) × (u ≡ printed_out n x w))
+  pub left_printed : {u v : Writer} → n ≤ length w → u.at ≡ 0 → u.out.now ≡ w → Put u v x
+      → IsPrefixLen v.at v.out.now × ((v.at ≡ printed_length n x w) × (v.out.now ≡ printed_out n x w))
   unfolding printed_length printed_out
-  left_printed {m} {y} {u} h e a =
-      let l = length_put a in
-      let k : m ≡ length y = omega (arith, a.ends) in
-      (prefix_len_of_le m u (omega (arith, a.room)), (simp (le-leb n (length w) h, e) k, simp (le-leb n (length w) h, e) a.left))
+  left_printed {u} {v} h z e a =
+      let l : length v.out.now ≡ length w = length_put a ∙ ap length e in
+      let k : v.at ≡ length x = omega (arith, a.ends, z) in
+      let o : v.out.now ≡ over 0 x w = a.left ∙ ap (λ (i : ℕ). over i x u.out.now) z ∙ ap (over 0 x) e in
+      let r : v.at ≤ length v.out.now = omega (arith, a.room, length_put a) in
+      (prefix_len_of_le v.at v.out.now r, (simp (le-leb n (length w) h) k, simp (le-leb n (length w) h) o))

@@ -12,7 +12,9 @@ use lib.ListN.{length, get_or, take, length-append}
 use lib.Seq.{take-suc, length-take-le}
 use borrow.Author.Tests.{lt-ltb, ltb-true, ltb-false, ne_eqb}
 use Rattle.std.specs.Fmt.{digit_glyph, digits_onto, digits, decimal as std_decimal}
-use Rattle.text.specs.Text.{digit, hex, decimal_by, decimal, field, line}
+use Rattle.std.specs.Int.{w32, to_be_bytes}
+use Rattle.text.specs.declared.Writer.{Writer}
+use Rattle.text.specs.Text.{digit, hex, be32, decimal_by, decimal, field, line}
 use Rattle.text.specs.Put.{Room, Put}
 use Rattle.text.proofs.PutLaws.{length_put, join}
 
@@ -75,17 +77,24 @@ unfolding decimal digits
 decimal_text n h = by_tens 63 n n [] (omega arith) (omega arith) ∙ append-nil (decimal_by n n)
 
 -- where the first i bytes of s are put in hexadecimal: the room left, and one byte more
-module _ {at p : ℕ} {w u : List ℕ} (s : List ℕ) (i : ℕ) (a : Put at p (hex (take i s)) w u) where
-  pub hex_room : (end : ℕ) → Room at (field (hex s) end) w → i ≤ length s → p + 2 * (length s - i) + 1 ≤ length u
+module _ {u v : Writer} (s : List ℕ) (i : ℕ) (a : Put u v (hex (take i s))) where
+  pub hex_room : (end : ℕ) → Room u (field (hex s) end) → i ≤ length s → v.at + 2 * (length s - i) + 1 ≤ length v.out.now
   unfolding field
   hex_room end r h =
       omega (arith, r.fits, a.ends, length_put a, length-append (hex s) (end ∷ []), length_hex s, length_hex (take i s), length-take-le i s h)
 
-  pub hex_put : {q r d e : ℕ} {v x : List ℕ} → i < length s → d ≡ digit (get_or s i 0 / 16) → e ≡ digit (get_or s i 0 % 16)
-      → Put p q (d ∷ []) u v
-      → Put q r (e ∷ []) v x
-      → Put at r (hex (take (i + 1) s)) w x
+  pub hex_put : {w x : Writer} {d e : ℕ} → i < length s → d ≡ digit (get_or s i 0 / 16) → e ≡ digit (get_or s i 0 % 16) → Put v w (d ∷ [])
+      → Put w x (e ∷ [])
+      → Put u x (hex (take (i + 1) s))
   hex_put h dd ee b c = rw (hex_more s i h, ← dd, ← ee) (join a (join b c))
+
+-- the four bytes as std has them
+pub be_bytes : (n : ℕ) → to_be_bytes w32 n ≡ be32 n
+unfolding be32
+be_bytes n =
+    let a : n / 16777216 % 256 ≡ n / 256 / 256 / 256 % 256 = omega arith in
+    let b : n / 65536 % 256 ≡ n / 256 / 256 % 256 = omega arith in
+    rw (a, b) refl
 
 -- lengths: of a number below a power of ten, and of a line
 digits_short : (k most n : ℕ) → n < 10 ^ suc k → length (decimal_by most n) ≤ suc k

@@ -1,17 +1,19 @@
--- What a writer asks of the bytes lent, `Room` for its text, and what it leaves: the text `Put` over them, and the place behind it. And what a
+-- What is asked of a writer, `Room` for a text, and what it does: the text is `Put` over the bytes lent, behind what stands there. And what a
 -- program's whole text leaves, of whatever is lent.
 use Rattle.std.specs.Prelude.{ℕ, ◌+◌, ◌≤◌, ◌≡◌, List, cond, leb, length, take}
 use Rattle.buffers.specs.Bytes.{over}
+use Rattle.text.specs.declared.Writer.{Writer}
 
--- w has room for x from a place on
-pub record Room (at : ℕ) (x w : List ℕ) : Type 0 where
-  pub fits : at + length x ≤ length w
+-- v has room for x
+pub record Room (v : Writer) (x : List ℕ) : Type 0 where
+  pub fits : v.at + length x ≤ length v.out.now
 
--- the bytes x were put over w from the place at up to p, and u is what that left
-pub record Put (at p : ℕ) (x w u : List ℕ) : Type 0 where
-  pub left : u ≡ over at x w
-  pub ends : p ≡ at + length x
-  pub room : p ≤ length w
+-- x was put behind what stood in v, and w is what that left, over the same bytes
+pub record Put (v w : Writer) (x : List ℕ) : Type 0 where
+  pub same : w.out.ghost_name ≡ v.out.ghost_name
+  pub left : w.out.now ≡ over v.at x v.out.now
+  pub ends : w.at ≡ v.at + length x
+  pub room : w.at ≤ length v.out.now
 
 -- `&xs[..n]` is in bounds and has n bytes. The second part follows from the first, and spares a caller's `&buf[..n]` a proof file.
 abbrev pub IsPrefixLen : ℕ → List ℕ → Type 0

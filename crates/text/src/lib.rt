@@ -1,8 +1,8 @@
-// Text put into bytes lent: each writer puts its text from a place on, and answers the place behind it.
+// Text put into bytes lent.
 #![tactic(auto)]
 
 ghost use Rattle.std.specs.Prelude.{◌≡◌, ◌<◌, [], ◌∷◌};
-ghost use Rattle.text.specs.Text.{digit as digit_of, hex, be32 as be32_of, decimal, field};
+ghost use Rattle.text.specs.Text.{digit as digit_of, hex, decimal, field};
 ghost use Rattle.text.specs.Put.{Room, Put};
 
 use itoa::Buffer;
@@ -11,24 +11,7 @@ pub const SPACE: u8 = b' ';
 
 pub const FEED: u8 = b'\n';
 
-#[tactic(auto, using(crate::proofs::PutLaws::put_one))]
-fn put(out: &mut [u8], at: usize, b: u8) -> usize
-    requires { Room at (b ∷ []) out.old }
-    ensures { Put at result (b ∷ []) out.old out.new }
-{
-    out[at] = b;
-    at + 1
-}
-
-#[tactic(auto, using(crate::proofs::PutLaws::put_copy))]
-pub fn put_all(out: &mut [u8], at: usize, text: &[u8]) -> usize
-    requires { Room at text.now out.old }
-    ensures { Put at result text.now out.old out.new }
-{
-    buffers::copy(text, &mut out[at..]);
-    at + text.len()
-}
-
+// std's `char::from_digit` has small letters.
 #[tactic(auto, unfolding(crate::specs::Text::digit))]
 fn digit(d: u8) -> u8
     requires { d < 16 }
@@ -37,40 +20,60 @@ fn digit(d: u8) -> u8
     if d < 10 { b'0' + d } else { b'A' + (d - 10) }
 }
 
-// Two digits a byte, and the character behind them.
-pub fn put_hex(out: &mut [u8], at: usize, bytes: &[u8], end: u8) -> usize
-    requires { Room at (field (hex bytes.now) end) out.old }
-    ensures { Put at result (field (hex bytes.now) end) out.old out.new }
-{
-    let mut p = at;
-    let mut i: usize = 0;
-    while i < bytes.len() {
-        p = put(out, p, digit(bytes[i] / 16));
-        p = put(out, p, digit(bytes[i] % 16));
-        i += 1;
+// The bytes lent, and the place behind the text that was put.
+#[derive(Drop)]
+pub struct Writer<'a> {
+    pub out: &'a mut [u8],
+    pub at: usize,
+}
+
+impl<'a> Writer<'a> {
+    // From the front on.
+    pub fn new(out: &'a mut [u8]) -> Writer<'a>
+        ensures same { result.out.ghost_name ≡ out.entry.ghost_name }
+        ensures front { (result.at ≡ 0) × (result.out.now ≡ out.old) }
+    {
+        Writer { out, at: 0 }
     }
-    put(out, p, end)
-}
 
-// A number in decimal, and the character behind it.
-pub fn put_number(out: &mut [u8], at: usize, n: u64, end: u8) -> usize
-    requires { Room at (field (decimal n) end) out.old }
-    ensures { Put at result (field (decimal n) end) out.old out.new }
-{
-    let mut digits = Buffer::new();
-    let at = put_all(out, at, digits.format(n).as_bytes());
-    put(out, at, end)
-}
+    #[tactic(auto, using(buffers::proofs::OverLaws::over_set))]
+    fn put(&mut self, b: u8)
+        requires { Room self.old (b ∷ []) }
+        ensures { Put self.old self.new (b ∷ []) }
+    {
+        self.out[self.at] = b;
+        self.at += 1;
+    }
 
-// A number's four bytes, greatest first.
-#[tactic(auto, unfolding(crate::specs::Text::be32))]
-pub fn be32(n: u32) -> [u8; 4]
-    ensures { result ≡ be32_of n }
-{
-    [
-        (n / 256 / 256 / 256 % 256) as u8,
-        (n / 256 / 256 % 256) as u8,
-        (n / 256 % 256) as u8,
-        (n % 256) as u8,
-    ]
+    #[tactic(auto, using(crate::proofs::PutLaws::over_mid))]
+    pub fn put_all(&mut self, text: &[u8])
+        requires { Room self.old text.now }
+        ensures { Put self.old self.new text.now }
+    {
+        let end = self.at + text.len();
+        self.out[self.at..end].copy_from_slice(text);
+        self.at = end;
+    }
+
+    // Two digits a byte, and the character behind them. By hand: std's `{:02X}` would want an impl of fmt::Write, and this loop round it.
+    pub fn put_hex(&mut self, bytes: &[u8], end: u8)
+        requires { Room self.old (field (hex bytes.now) end) }
+        ensures { Put self.old self.new (field (hex bytes.now) end) }
+    {
+        for b in bytes {
+            self.put(digit(b / 16));
+            self.put(digit(b % 16));
+        }
+        self.put(end);
+    }
+
+    // A number in decimal, and the character behind it.
+    pub fn put_number(&mut self, n: u64, end: u8)
+        requires { Room self.old (field (decimal n) end) }
+        ensures { Put self.old self.new (field (decimal n) end) }
+    {
+        let mut digits = Buffer::new();
+        self.put_all(digits.format(n).as_bytes());
+        self.put(end);
+    }
 }

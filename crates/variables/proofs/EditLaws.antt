@@ -1,10 +1,12 @@
 -- Inserts and removes where the active bank's records stand from one place of the work area up to another: what the code's writes leave is the
--- edited bank laid out (`work_less`, `work_more`), so the call does what the book says (`removes`, `insert_refused`, `inserts`).
+-- edited bank laid out (`work_less`, `work_more`), so the call does what the book says (`removes`, `insert_refused`, `inserts`). `remove_stays` is to be read:
+-- nothing cites it.
 use Prim.Native.Nat.{ℕ, zero, suc, ◌+◌, ◌-◌, ◌≤◌, ◌<◌}
 use mathlib.Core.Path.{◌≡◌, refl, sym, ap, ap₂, ◌∙◌}
 use mathlib.Core.List.{List, [], ◌∷◌, ◌++◌, append_assoc, append-nil}
 use mathlib.Core.Logic.{◌≢◌}
-use mathlib.Core.Bool.{true, false}
+use mathlib.Core.Bool.{Bool, true, false}
+use Rattle.std.specs.Prelude.{is_some}
 use native.Mathlib.Omega.{arith}
 use lib.ListN.{length, set, replicate, length-append, length-replicate, replicate-append-replicate}
 use lib.Seq.{set-get_or}
@@ -25,17 +27,18 @@ use Rattle.book.specs.Book.{part_size, with_active, with_records}
 use Rattle.book.specs.Call.{edit, edited, change, edit_as, edit_bank, step}
 use Rattle.book.proofs.EditedRecords.{has_room, no_attributes, sizes_edited, fine_edited}
 use Rattle.book.proofs.BookLaws.{part_size_lem, part_times}
-use Rattle.nvram.specs.declared.state.Kind.TheVariants.{Empty, Valid}
+use Rattle.nvram.specs.declared.state.Kind.{Kind}
+use Rattle.nvram.specs.declared.state.Kind.TheVariants.{Empty, Invalid, Valid}
 use Rattle.nvram.specs.declared.state.Entry.{Entry}
 use Rattle.nvram.specs.declared.state.Nvram.{Nvram}
 use Rattle.nvram.specs.Part.{entry, entry_of}
-use Rattle.nvram.specs.Layout.{lay_table, lay_state, set_entry, lay_work}
+use Rattle.nvram.specs.Layout.{lay_table, lay_state, set_entry, lay_work, view}
 use Rattle.nvram.specs.Ready.{active_entry}
-use Rattle.nvram.specs.Contract.{Does}
+use Rattle.nvram.specs.Contract.{call, Does}
 use Rattle.nvram.proofs.LayoutLaws.{table_set}
-use Rattle.nvram.proofs.CallLaws.{does, by_valid}
-use Rattle.nvram.proofs.ReadyLaws.{Standing, records}
-use Rattle.nvram.proofs.ActiveLaws.{Sound, book, viewed, active_is, n_is, banks_are, in_slots, does_refuse, part_within, bank, bank_is, bank_fine, total_is, usable_is, total_high, front, rest, laid_with, front_length, laid_out, work_split}
+use Rattle.nvram.proofs.CallLaws.{does_6, does, empty_valid, invalid_valid, by_valid}
+use Rattle.nvram.proofs.ReadyLaws.{Standing, stand, records}
+use Rattle.nvram.proofs.ActiveLaws.{Sound, does_7, book, viewed, active_is, n_is, banks_are, in_slots, does_refuse, part_within, bank, bank_is, bank_fine, total_is, usable_is, total_high, front, rest, laid_with, front_length, laid_out, work_split}
 
 module _ {s : Nvram} {w : List ℕ} {from to : ℕ} (k : Standing s w from to) where
   abbrev g : Sound s w
@@ -199,18 +202,19 @@ module _ {s : Nvram} {w : List ℕ} {from to : ℕ} (k : Standing s w from to) w
             omega (arith, k.from_is, part_times s.active, part_within g, total_high g v, less_length) in
             omega (arith, ap length p, length_over from (records_bytes less) w h, k.to_is, part_times s.active, part_within g, insert_room accepted)
 
-        -- the code's two writes
-        pub inserts : (w₁ w₂ : List ℕ) (s' : Nvram) → w₁ ≡ over from (records_bytes (removed key typ (records k))) w
+        -- the code's two writes, and the entry's total
+        pub inserts : (n : ℕ) (w₁ w₂ : List ℕ) (s' : Nvram) → n ≡ size → w₁ ≡ over from (records_bytes (removed key typ (records k))) w
             → w₂ ≡ over to (record_bytes (fresh 0 key value typ)) w₁
-            → s' ≡ set_entry s s.active (entry Valid (now.total + size) now.usable)
+            → s' ≡ set_entry s s.active (entry now.kind (now.total + n) now.usable)
             → Does (edit (insert m key value typ)) s w (edited 0) [] s' w₂
         unfolding records edited_by total
-        inserts w₁ w₂ s' p q z =
+        inserts n w₁ w₂ s' a p q z =
             let e : to ≡ from + length (records_bytes less) = omega (arith, k.from_is, k.to_is, total_is g v, less_length) in
             let h : from + length (records_bytes less) + length (record_bytes new) ≤ length w =
             omega (arith, e, k.to_is, part_times s.active, part_within g, insert_room accepted, size_is, new_length) in
             does_edit (insert m key value typ) (accepted ∙ refused_by_lem) s' w₂
-            (z ∙ state_with (with_records (bank g v) more) (now.total + size) now.usable (omega (arith, total_is g v, more_sizes, size_is)) (usable_is g v))
+            (z ∙ ap₂ (λ (x : Kind) (i : ℕ). set_entry s s.active (entry x (now.total + i) now.usable)) v a
+            ∙ state_with (with_records (bank g v) more) (now.total + size) now.usable (omega (arith, total_is g v, more_sizes, size_is)) (usable_is g v))
             (q ∙ ap (λ (a : ℕ). over to (record_bytes (fresh a key value typ)) w₁) (sym (no_attributes m))
             ∙ ap₂ (λ (i : ℕ) (x : List ℕ). over i (record_bytes new) x) e p
             ∙ over_over from (from + length (records_bytes less)) (records_bytes less) (record_bytes new) w refl h
@@ -230,3 +234,18 @@ module _ (m : Manner) (long reached : ℕ) where
     pub answers_0 : reached ≤ 131072 → 0 ≡ refused_insert m long reached
     unfolding refused_insert
     answers_0 h = let p : reached ≤ part_size = omega (arith, h, part_size_lem) in rw (within, le-leb _ _ p)
+
+-- a remove leaves the state as it was
+
+stays : (key : List ℕ) (typ : VarType) (s : Nvram) (w : List ℕ) → Sound s w → (k : Kind) → (active_entry s).kind ≡ k
+    → s ≡ (call (edit (remove key typ)) s w).state
+stays key typ s w g Empty e = (does_7 g (edit (remove key typ)) tt (empty_valid _ e)).state
+stays key typ s w g Invalid e = (does_7 g (edit (remove key typ)) tt (invalid_valid _ e)).state
+stays key typ s w g Valid e = (removes (stand g e) key typ _ refl).state
+
+pub remove_stays : (key : List ℕ) (typ : VarType) (s : Nvram) (w : List ℕ) → Bytes w → length s.banks ≡ 16 → s ≡ (call (edit (remove key typ)) s w).state
+remove_stays key typ s w k l = go (is_some (view s w)) refl
+  where
+    go : (t : Bool) → is_some (view s w) ≡ t → s ≡ (call (edit (remove key typ)) s w).state
+    go true e = stays key typ s w (record { bytes = k; long = l; ok = e }) (active_entry s).kind refl
+    go false e = (does_6 (edit (remove key typ)) s w e).state

@@ -1,11 +1,11 @@
 -- A lookup's answer (01, 'Edits and lookups') as the code gives it.
-use Rattle.std.proofs.Math.Option.{none, some}
+use Rattle.std.specs.Prelude.{Option, None, Result, Ok, Err}
+use Rattle.refusal.specs.declared.Refusal.{Refusal}
+use Rattle.refusal.specs.Refusal.{number}
+use Rattle.records.specs.declared.edit.Found.{Found}
 use Rattle.book.specs.Call.{Answer, looked}
-use Rattle.variables.specs.declared.lookup.Lookup.{Lookup}
-use Rattle.variables.specs.declared.lookup.Lookup.TheVariants.{At, Nothing, Refused}
 
--- a lookup's answer by cases: found, none, or refused by a number
-abbrev pub lookup_answer : Lookup → Answer
-lookup_answer (At f) = looked 0 (some f)
-lookup_answer Nothing = looked 0 none
-lookup_answer (Refused k) = looked k none
+-- found, none, or refused by a number
+abbrev pub lookup_answer : Result (Option Found) Refusal → Answer
+lookup_answer (Ok f) = looked 0 f
+lookup_answer (Err r) = looked (number r) None

@@ -1,66 +1,71 @@
 // Inserts and removes: 01, 'Edits and lookups'; and the barrels' inserts: 02, N5.
-ghost use Rattle.std.specs.Prelude.{◌≡◌, [], ◌+◌, ◌≤◌, ◌<◌};
+ghost use Rattle.std.specs.Prelude.{◌≡◌, [], ◌+◌, ◌≤◌, ◌<◌, ◌≢◌, IfOk, IfErr};
+ghost use Rattle.std.specs.Result.{result_unwrap_or};
+ghost use Rattle.refusal.specs.Refusal.{number, number_of};
 ghost use Rattle.book.specs.Edit.{insert, remove, over_ceiling, refused_insert};
 ghost use Rattle.book.specs.Call.{edit, edited};
-ghost use Rattle.nvram.specs.Part.{entry};
-ghost use Rattle.nvram.specs.Layout.{set_entry};
 ghost use Rattle.nvram.specs.Ready.{active_entry};
 ghost use Rattle.nvram.specs.Contract.{Does};
 ghost use Rattle.variables.specs.Manner.{manner_of};
 
 use bank::{VarType, Variable};
-use nvram::{Entry, Kind, Nvram, Ready};
+use nvram::Nvram;
 use records::{append, delete_all};
+use refusal::Refusal;
 
-// Whose insert it is: the clock's, which is the Rust's, or the chime barrels', whose controller has 512 bytes for a value.
+// Whose insert it is: the clock's, which is the Rust's, or the chime barrels', whose controller has 512 bytes for a value. An enum and no closure: the
+// claims on runs speak of both.
 #[derive(Clone, Copy)]
 pub enum Manner {
     Plain,
     Barrel,
 }
 
-// A refusal's number, or 0, and the state after.
-#[derive(Clone, Copy)]
-pub struct Edited {
-    pub number: u32,
-    pub state: Nvram,
-}
-
-pub fn remove_variable(state: Nvram, work: &mut [u8], key: &[u8], typ: VarType) -> Edited
-    ensures { Does (edit (remove key.now typ)) state work.old (edited result.number) [] result.state work.new }
+pub fn remove_variable(
+    state: Nvram,
+    work: &mut [u8],
+    key: &[u8],
+    typ: VarType,
+) -> Result<(), Refusal>
+    ensures { Does (edit (remove key.now typ)) state work.old (edited (number_of result)) [] state work.new }
 {
-    match state.ready(work) {
-        Ready::Refused(number) => Edited { number, state },
-        Ready::Records(from, to) => {
-            delete_all(work, from, to, key, typ);
-            Edited { number: 0, state }
-        }
-    }
+    let records = state.ready(work)?;
+    delete_all(work, records, key, typ);
+    Ok(())
 }
 
 pub fn insert_variable(
-    state: Nvram,
+    state: &mut Nvram,
     work: &mut [u8],
     key: &[u8],
     value: &[u8],
     typ: VarType,
     manner: Manner,
-) -> Edited
-    ensures { Does (edit (insert (manner_of manner) key.now value.now typ)) state work.old (edited result.number) [] result.state work.new }
+) -> Result<(), Refusal>
+    ensures { Does (edit (insert (manner_of manner) key.now value.now typ)) state.old work.old (edited (number_of result)) [] state.new work.new }
 {
-    match state.ready(work) {
-        Ready::Refused(number) => Edited { number, state },
-        Ready::Records(from, to) => {
-            let number = refusal(state, key.len(), value.len(), manner);
-            if number != 0 {
-                return Edited { number, state };
-            }
-            delete_all(work, from, to, key, typ);
-            append(work, to, 0, key, value, typ);
-            let state = grown(state, key.len(), value.len());
-            Edited { number: 0, state }
-        }
-    }
+    *state = inserted(*state, work, key, value, typ, manner)?;
+    Ok(())
+}
+
+// The state after an insert: the active bank's total grows by the record. By value: the length of a table behind a reference isn't known.
+fn inserted(
+    mut state: Nvram,
+    work: &mut [u8],
+    key: &[u8],
+    value: &[u8],
+    typ: VarType,
+    manner: Manner,
+) -> Result<Nvram, Refusal>
+    ensures { Does (edit (insert (manner_of manner) key.now value.now typ)) state work.old (edited (number_of result)) [] (result_unwrap_or result state) work.new }
+{
+    let records = state.ready(work)?;
+    let end = records.end;
+    let size = fresh_size(state, key.len(), value.len(), manner)?;
+    delete_all(work, records, key, typ);
+    append(work, end, 0, key, value, typ);
+    state.banks[state.active as usize].total += size;
+    Ok(state)
 }
 
 // Whether a value of this length is over the ceiling.
@@ -73,41 +78,23 @@ fn over_ceiling(value: usize, manner: Manner) -> bool
     }
 }
 
-// The number by which an insert with a key and a value of these lengths is refused, or 0.
-fn refusal(state: Nvram, key: usize, value: usize, manner: Manner) -> u32
+// The size of a record with a key and a value of these lengths, if an insert of it isn't refused.
+fn fresh_size(state: Nvram, key: usize, value: usize, manner: Manner) -> Result<u32, Refusal>
     requires { (state.active < 16) × ((active_entry state).total ≤ 131072) }
-    ensures { result ≡ refused_insert (manner_of manner) value ((active_entry state).total + (37 + key + value)) }
+    ensures number { number_of result ≡ refused_insert (manner_of manner) value ((active_entry state).total + (37 + key + value)) }
+    ensures refused { IfErr result (λ r. number r ≢ 0) }
+    ensures size { IfOk result (λ n. n ≡ 37 + key + value) }
 {
-    let i = state.active as usize;
-    let entry = state.banks[i];
+    let entry = state.banks[state.active as usize];
     let left = Nvram::PART_SIZE - entry.total as usize;
     if over_ceiling(value, manner) {
-        return 15;
+        return Err(Refusal::ValueLong);
     }
-    if left < Variable::LEAST_SIZE {
-        return 8;
+    let size = Variable::LEAST_SIZE
+        .saturating_add(key)
+        .saturating_add(value);
+    if left < size {
+        return Err(Refusal::Full);
     }
-    if left - Variable::LEAST_SIZE < key {
-        return 8;
-    }
-    if left - Variable::LEAST_SIZE - key < value {
-        return 8;
-    }
-    0
-}
-
-// The state with such a record in the active bank.
-fn grown(state: Nvram, key: usize, value: usize) -> Nvram
-    requires { (state.active < 16) × ((active_entry state).total + (37 + key + value) ≤ 131072) }
-    ensures { result ≡ set_entry state state.active (entry Kind.Valid ((active_entry state).total + (37 + key + value)) (active_entry state).usable) }
-{
-    let i = state.active as usize;
-    let entry = state.banks[i];
-    let mut next = state;
-    next.banks[i] = Entry {
-        kind: Kind::Valid,
-        total: entry.total + (Variable::LEAST_SIZE + key + value) as u32,
-        usable: entry.usable,
-    };
-    next
+    Ok(size as u32)
 }

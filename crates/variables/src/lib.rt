@@ -4,5 +4,5 @@
 mod edit;
 mod lookup;
 
-pub use edit::{Edited, Manner, insert_variable, remove_variable};
-pub use lookup::{Lookup, get_variable, value};
+pub use edit::{Manner, insert_variable, remove_variable};
+pub use lookup::{get_variable, value};

@@ -1,102 +1,77 @@
 // The whole image: 01, 'Edits and lookups'.
 #![tactic(auto)]
 
-ghost use Rattle.std.specs.Prelude.{◌≡◌, false, List, ◌++◌, ◌*◌, ◌≤◌, ◌<◌, length, get_or, take, drop};
-ghost use Rattle.bank.specs.Bank.{Slot, invalid};
-ghost use Rattle.book.specs.Book.{slot_size};
+ghost use Rattle.std.specs.Prelude.{◌≡◌, false, List, ◌++◌, ◌*◌, ◌≤◌, length, take, drop};
+ghost use Rattle.std.specs.Result.{result_unwrap_or};
+ghost use Rattle.refusal.specs.Refusal.{number_of};
+ghost use Rattle.bank.specs.Bank.{Slot, part_of};
+ghost use Rattle.book.specs.Book.{part_size, FineSlot, slot_size};
 ghost use Rattle.book.specs.Commit.{image_output, any_overfull};
 ghost use Rattle.book.specs.Call.{whole_image, joined};
+ghost use Rattle.nvram.specs.Part.{entry_of};
 ghost use Rattle.nvram.specs.Contract.{Does};
 ghost use Rattle.whole_image.specs.Slots.{Slots};
 
-use bank::{Head, Partition, StoreHeader};
-use nvram::{Kind, Nvram, is_sound};
+use bank::{Partition, StoreHeader};
+use nvram::{Entry, Kind, Nvram, is_sound};
+use refusal::Refusal;
 
-// A refusal's number, or 0, and the length of the image in the output.
-#[derive(Clone, Copy)]
-pub struct Serialized {
-    pub number: u32,
-    pub length: usize,
-}
-
-// How many bytes slot i has in the image: a Valid bank's size, else none.
-fn slot_size(state: Nvram, work: &[u8], i: usize) -> usize
-    requires { ((ss : List Slot) × Slots state.n state.banks work.now ss) × (i < state.n) }
-    ensures { (ss : List Slot) → Slots state.n state.banks work.now ss → result ≡ slot_size (get_or ss i invalid) }
+// How many bytes a slot has in the image: a Valid bank's size, else none.
+fn slot_size(entry: &Entry, part: &[u8; Nvram::PART_SIZE]) -> usize
+    ensures { (k : Slot) → FineSlot k → entry.now ≡ entry_of k → part.now ≡ part_of part_size k → result ≡ slot_size k }
 {
-    let entry = state.banks[i];
-    let kind = entry.kind;
-    match kind {
-        Kind::Empty => 0,
-        Kind::Invalid => 0,
-        Kind::Valid => match StoreHeader::parse(&work[i * Nvram::PART_SIZE..]) {
-            Head::Good(header) => header.size as usize,
-            Head::Signature => 0,
-            Head::Version => 0,
-            Head::Size => 0,
+    match entry.kind {
+        Kind::Valid => match StoreHeader::parse(part) {
+            Ok(header) => header.size as usize,
+            Err(_) => 0,
         },
+        _ => 0,
     }
 }
 
 // Whether a Valid bank's total is over its size.
-fn overfull(state: Nvram, work: &[u8]) -> bool
-    requires { (ss : List Slot) × Slots state.n state.banks work.now ss }
-    ensures { (ss : List Slot) → Slots state.n state.banks work.now ss → result ≡ any_overfull ss }
+fn overfull(entries: &[Entry], parts: &[[u8; Nvram::PART_SIZE]]) -> bool
+    ensures { (ss : List Slot) → Slots entries.now parts.now ss → result ≡ any_overfull ss }
 {
-    let n = state.n as usize;
-    let mut i: usize = 0;
-    while i < n {
-        let entry = state.banks[i];
-        if slot_size(state, work, i) < entry.total as usize {
+    for (entry, part) in entries.iter().zip(parts) {
+        if slot_size(entry, part) < entry.total as usize {
             return true;
         }
-        i += 1;
     }
     false
 }
 
 // The Valid banks, each at its own size, to the output; their length.
-fn join(state: Nvram, work: &[u8], output: &mut [u8]) -> usize
-    requires { ((ss : List Slot) × Slots state.n state.banks work.now ss) × (state.n * 65536 ≤ length output.old) }
-    ensures { (ss : List Slot) → Slots state.n state.banks work.now ss → any_overfull ss ≡ false → (result ≡ length (image_output ss)) × (output.new ≡ image_output ss ++ drop result output.old) }
+fn join(entries: &[Entry], parts: &[[u8; Nvram::PART_SIZE]], output: &mut [u8]) -> usize
+    requires { ((ss : List Slot) × Slots entries.now parts.now ss) × (length entries.now * 65536 ≤ length output.old) }
+    ensures { (ss : List Slot) → Slots entries.now parts.now ss → any_overfull ss ≡ false → (result ≡ length (image_output ss)) × (output.new ≡ image_output ss ++ drop result output.old) }
 {
-    let n = state.n as usize;
-    let mut at: usize = 0;
-    let mut i: usize = 0;
-    while i < n {
-        let size = slot_size(state, work, i);
-        let a = i * Nvram::PART_SIZE;
-        let end = a + size;
-        buffers::copy(&work[a..end], &mut output[at..]);
+    let mut at = 0;
+    for (entry, part) in entries.iter().zip(parts) {
+        let size = slot_size(entry, part);
+        // Not copy_from_slice, which calls memmove.
+        buffers::copy(&part[..size], &mut output[at..at + size]);
         at += size;
-        i += 1;
     }
     at
 }
 
-pub fn serialize(state: Nvram, work: &[u8], output: &mut [u8]) -> Serialized
-    ensures { Does (whole_image (length output.old)) state work.now (joined result.number result.length) (take result.length output.new) state work.now × (drop result.length output.new ≡ drop result.length output.old) }
+// The image's length in the output.
+pub fn serialize(state: Nvram, work: &[u8], output: &mut [u8]) -> Result<usize, Refusal>
+    ensures { let n = result_unwrap_or result 0 in Does (whole_image (length output.old)) state work.now (joined (number_of result) n) (take n output.new) state work.now × (drop n output.new ≡ drop n output.old) }
 {
     if !is_sound(state, work) {
-        return Serialized {
-            number: 6,
-            length: 0,
-        };
+        return Err(Refusal::NotSound);
     }
-    if output.len() < state.n as usize * Partition::SIZE {
-        return Serialized {
-            number: 5,
-            length: 0,
-        };
+    let n = state.n as usize;
+    if output.len() < n * Partition::SIZE {
+        return Err(Refusal::OutputShort);
     }
-    if overfull(state, work) {
-        return Serialized {
-            number: 13,
-            length: 0,
-        };
+    let (parts, _) = work.as_chunks::<{ Nvram::PART_SIZE }>();
+    let entries = &state.banks[..n];
+    let parts = &parts[..n];
+    if overfull(entries, parts) {
+        return Err(Refusal::BankOver);
     }
-    Serialized {
-        number: 0,
-        length: join(state, work, output),
-    }
+    Ok(join(entries, parts, output))
 }

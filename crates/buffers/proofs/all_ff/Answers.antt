@@ -1,21 +1,25 @@
--- `all_ff`: the answer for s is that for its bytes from i on; `ff_block` takes one block off, and a block that fails is the answer (`test_fails`).
-use native.Mathlib.Omega.{arith}
-use Prim.Native.Nat.{◌+◌}
+-- `all_ff`: the answer of the blocks and that of the rest make the whole (`all_ff_parts`).
+use borrow.Author.Rules.{rules}
 use mathlib.Core.Path.{sym, ap, ◌∙◌}
+use Rattle.std.proofs.Common.{Bool, ◌&&◌, tests}
+use Rattle.std.proofs.lemmas.Iterator.{YieldsList-from_slice}
+use Rattle.std.proofs.lemmas.Iterator.Search.{all_from_yields_List}
 use Rattle.buffers.specs.Bytes.{all_ff}
-use Rattle.buffers.proofs.LoopSteps.{test_fails, test_holds, tail, ff_block}
+use Rattle.buffers.proofs.Chains.{all_ff_parts}
 use Rattle.buffers.proofs.all_ff.Goals as goal
 
-pub returns-then-not-block_ff : goal.returns-then-not-block_ff
-returns-then-not-block_ff c = let l = c.loop-i in
-    let r = c.block_ff in
-    test_fails l.invariant.1 (ff_block c.args.s.now l.i (l.i + 512) (omega arith)) (sym r.ensures ∙ c.if-not-block_ff.true)
+pub returns-then-all : goal.returns-then-all
+returns-then-all c =
+    let p = c.as_chunks in
+    c.block_ff.ensures
+    ∙ ap (λ (t : Bool). t && all_ff p.result.1.now) (sym c.if-all.true)
+    ∙ all_ff_parts _ _ c.args.s.now _ _ _ p.ensures.front p.ensures.back
+    (all_from_yields_List all_ff _ _ _ c.all.ensures.ran (YieldsList-from_slice p.result.0.now cc) (λ x b q k. search (rules, tests)))
 
-pub loop-i-preserved : goal.loop-i-preserved
-loop-i-preserved c = let l = c.loop-i in
-    let r = c.block_ff in
-    (omega arith, test_holds l.invariant.1 (ff_block c.args.s.now l.i (l.i + 512) (omega arith)) (sym r.ensures ∙ c.if-not-block_ff.false))
-
-pub returns : goal.returns
-returns c = let l = c.loop-i in
-    c.block_ff-2.ensures ∙ ap all_ff (tail c.args.s.now l.i) ∙ sym l.invariant.1
+pub returns-else-all : goal.returns-else-all
+returns-else-all c =
+    let p = c.as_chunks in
+    c.if-all.false
+    ∙ ap (λ (t : Bool). t && all_ff p.result.1.now) (sym c.if-all.false)
+    ∙ all_ff_parts _ _ c.args.s.now _ _ _ p.ensures.front p.ensures.back
+    (all_from_yields_List all_ff _ _ _ c.all.ensures.ran (YieldsList-from_slice p.result.0.now cc) (λ x b q k. search (rules, tests)))

@@ -1,18 +1,14 @@
--- `block_ff`: `ok` and the answer for the bytes from i on make that for all (`Both`); `ff_more` takes a byte, `ff_none` is the end.
 use borrow.Author.Rules.{rules}
-use native.Mathlib.Omega.{arith}
-use mathlib.Core.Path.{refl}
-use Rattle.buffers.proofs.LoopSteps.{flag_more, flag_none, ff_more, ff_none}
+use mathlib.Core.Path.{◌∙◌}
+use mathlib.Core.Bool.{Bool, true, ◌&&◌}
+use Rattle.std.proofs.Common.{ℕ, tests}
+use lib.Dec.{eqb}
+use Rattle.std.proofs.lemmas.Iterator.{YieldsList-from_slice}
+use Rattle.std.proofs.lemmas.Iterator.Consumers.{fold_from_yields_List}
+use Rattle.buffers.proofs.Chains.{all_ff_fold}
 use Rattle.buffers.proofs.block_ff.Goals as goal
 
-pub loop-i-init : goal.loop-i-init
-loop-i-init c = (search rules, record { is = refl })
-
-pub loop-i-preserved : goal.loop-i-preserved
-loop-i-preserved c = let s = c.args.s.now in
-    let l = c.loop-i in
-    (omega arith, flag_more l.invariant.1 (ff_more s l.i (omega arith)))
-
 pub returns : goal.returns
-returns c = let l = c.loop-i in
-    flag_none l.invariant.1 (ff_none c.args.s.now l.i (omega arith))
+returns c =
+    let s = c.args.s.now in
+    fold_from_yields_List _ (λ (ok : Bool) (x : ℕ). ok && eqb x 255) true _ c.fold.ensures.ran (YieldsList-from_slice s cc) (λ a x b q k. search (rules, tests)) ∙ all_ff_fold true s

@@ -1,13 +1,15 @@
--- `lead_bytes`: s has i bytes 0xFF in front, and then those in front from i on; `lead_more` passes one, `lead_stop` and `lead_none` are the exits.
-use native.Mathlib.Omega.{arith}
-use Rattle.buffers.proofs.LoopSteps.{lead_more, lead_stop, lead_none}
+use borrow.Author.Rules.{rules}
+use mathlib.Core.Path.{sym, ◌∙◌}
+use mathlib.Core.Bool.{not}
+use Rattle.std.proofs.Common.{ℕ, tests}
+use lib.Dec.{eqb}
+use Rattle.std.proofs.lemmas.Iterator.{YieldsList-from_slice}
+use Rattle.std.proofs.lemmas.Iterator.Search.{position_from_yields_List}
+use Rattle.buffers.proofs.Chains.{lead_place, place}
 use Rattle.buffers.proofs.lead_bytes.Goals as goal
 
-pub returns-then-s-i : goal.returns-then-s-i
-returns-then-s-i c = omega (arith, lead_stop c.args.s.now c.loop-i.i (omega arith) c.if-s-i.true)
-
-pub loop-i-preserved : goal.loop-i-preserved
-loop-i-preserved c = omega (arith, lead_more c.args.s.now c.loop-i.i (omega arith) c.if-s-i.false)
-
 pub returns : goal.returns
-returns c = omega (arith, lead_none c.args.s.now c.loop-i.i (omega arith))
+returns c =
+    let s = c.args.s.now in
+    let r = position_from_yields_List (λ (x : ℕ). not (eqb x 255)) _ _ _ c.position.ensures.ran (YieldsList-from_slice s cc) (λ x b q k. search (rules, tests)) in
+    c.unwrap_or.ensures ∙ place _ s _ r ∙ sym (lead_place s)

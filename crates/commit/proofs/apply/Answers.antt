@@ -1,36 +1,30 @@
--- `apply`: `at_hand` is a sound state and work area. Refusals 6, 5 and 7 in that order by `does_6`, `does_5` and `does_7`; a Valid slot goes by
--- `commit_active`, with the header and the sums that the check answers (`checked_active`).
-use mathlib.Core.Path.{sym, ◌∙◌}
-use mathlib.Core.Option.{none}
-use native.Mathlib.Omega.{arith}
-use borrow.Author.Tests.{not-true, not-false}
-use Rattle.book.specs.Call.{commit}
-use Rattle.nvram.proofs.SoundLaws.{soundness_sound}
-use Rattle.nvram.proofs.CallLaws.{does_6, empty_valid, invalid_valid}
-use Rattle.nvram.proofs.ActiveLaws.{Sound, active_in}
-use Rattle.commit.proofs.CommitLaws.{checked_active, does_5, does_7, quiet}
-use Rattle.commit.proofs.apply.Goals.{Else-not-checked}
+-- `apply`: what is judged is written as it stands by `stays`, or moved by `move_on`.
+use mathlib.Core.Path.{sym, ap, ◌∙◌}
+use Rattle.std.specs.Prelude.{Ok}
+use Rattle.nvram.proofs.ActiveLaws.{active_in, part_within}
+use Rattle.commit.specs.Active.{way_of, verdict, MoveDue}
+use Rattle.commit.proofs.CommitLaws.{known, from_here, size_high, stays, writes}
+use Rattle.commit.proofs.apply.Goals.{In-Ok-Move-default}
 use Rattle.commit.proofs.apply.Goals as goal
 
-at_hand : (c : Else-not-checked) → Sound c.args.state c.args.work.now
-at_hand c = record { bytes = λ i. omega (arith, c.slice_known-1.given i); long = c.well_formed.0.1.1.1.1.1.0.1.0.1; ok = sym (soundness_sound _ _ _ c.check-checked.ensures) ∙ not-false _ c.if-not-checked.false }
+due : (c : In-Ok-Move-default) → MoveDue (way_of c.args.way) c.args.state.now c.args.work.now
+due c b k p q = let j = c.in-Ok-Move-default in sym (sym (ap (λ d. verdict (Ok d)) j.field-0-0-is) ∙ (j.ensures c.args.caller).2 b k p q)
 
-pub returns-then-not-checked : goal.returns-then-not-checked
-returns-then-not-checked c = let a = c.args in
-    quiet a.output.now c.refused.result none 6 c.refused.ensures (does_6 (commit _ _ _) a.state a.work.now (sym (soundness_sound _ _ _ c.check-checked.ensures) ∙ not-true _ c.if-not-checked.true))
+pub write-written-requires : goal.write-written-requires
+write-written-requires c =
+    let x = c.in-Ok-InPlace-default.ensures c.args.caller in
+    (active_in (known x.1), size_high x.1, part_within (known x.1), x.0)
 
-pub returns-then-output-lt-SIZE : goal.returns-then-output-lt-SIZE
-returns-then-output-lt-SIZE c = let a = c.args in quiet a.output.now c.refused-then-output-lt-SIZE.result none 5 c.refused-then-output-lt-SIZE.ensures (does_5 (at_hand (goal.at.returns-then-output-lt-SIZE c).Else-not-checked) _ _ _ c.if-output-lt-SIZE.true)
+pub move_on-requires : goal.move_on-requires
+move_on-requires c =
+    let j = c.in-Ok-Move-default.ensures c.args.caller in (j.1, (_, due (goal.at.move_on-requires c).In-Ok-Move-default), j.0)
 
-pub bounds-state-i : goal.bounds-state-i
-bounds-state-i c = active_in (at_hand (goal.at.bounds-state-i c).Else-not-checked)
+pub returns-in-Ok-Move-default : goal.returns-in-Ok-Move-default
+returns-in-Ok-Move-default c = c.move_on.ensures _ (due (goal.at.returns-in-Ok-Move-default c).In-Ok-Move-default)
 
-pub commit_active-requires : goal.commit_active-requires
-commit_active-requires c = let e = c.check-checked.ensures in
-    (record { sound = (at_hand (goal.at.commit_active-requires c).Else-not-checked).ok; kind = c.in-Valid.is; header = λ b k p q. (checked_active _ _ _ e b k p q).0 }, λ b k p q. (checked_active _ _ _ e b k p q).1, c.if-output-lt-SIZE.false)
-
-pub returns-in-Empty : goal.returns-in-Empty
-returns-in-Empty c = let a = c.args in quiet a.output.now c.refused-in-Empty.result none 7 c.refused-in-Empty.ensures (does_7 (at_hand (goal.at.returns-in-Empty c).Else-not-checked) _ _ _ c.if-output-lt-SIZE.false (empty_valid _ c.in-Empty.is))
-
-pub returns-in-Invalid : goal.returns-in-Invalid
-returns-in-Invalid c = let a = c.args in quiet a.output.now c.refused-in-Invalid.result none 7 c.refused-in-Invalid.ensures (does_7 (at_hand (goal.at.returns-in-Invalid c).Else-not-checked) _ _ _ c.if-output-lt-SIZE.false (invalid_valid _ c.in-Invalid.is))
+pub returns-in-Ok-InPlace-default : goal.returns-in-Ok-InPlace-default
+returns-in-Ok-InPlace-default c =
+    let j = c.in-Ok-InPlace-default in
+    let x = j.ensures c.args.caller in
+    writes _ _ _ _ _ _ (size_high x.1) (part_within (known x.1)) c.write-written.ensures
+    (stays x.1 _ _ _ x.0 (sym (ap (λ d. verdict (Ok d)) j.field-0-0-is) ∙ from_here x.1 x.2))

@@ -1,31 +1,24 @@
--- `of_active`: `at_hand` is a sound state and work area. Refusals 6 and 7 in that order by `does_6` and `does_7`; a Valid slot's figures are those
--- that the check answers (`sums`).
-use mathlib.Core.Path.{sym, ◌∙◌}
+-- `of_active`: refusals 6 and 7 in that order by `check_refuses` and `refuses_7`; a Valid slot's figures are those that the check answers (`sums`).
+use mathlib.Core.Bool.{true}
+use mathlib.Core.Path.{ap, ◌∙◌}
 use native.Mathlib.Omega.{arith}
-use borrow.Author.Tests.{not-true, not-false}
+use Rattle.std.specs.Prelude.{Ok, Err}
+use Rattle.std.proofs.lemmas.Result.{err_from_is_err_and}
 use Rattle.book.specs.Call.{figures}
-use Rattle.nvram.proofs.SoundLaws.{soundness_sound}
-use Rattle.nvram.proofs.CallLaws.{does_6, empty_valid, invalid_valid}
-use Rattle.nvram.proofs.ActiveLaws.{Sound, active_in, does_7}
-use Rattle.figures.proofs.FiguresLaws.{refuses, sums}
-use Rattle.figures.proofs.of_active.Goals.{Else-not-checked}
+use Rattle.nvram.proofs.CheckLaws.{check_refuses}
+use Rattle.figures.proofs.FiguresLaws.{refuses_7, sums}
 use Rattle.figures.proofs.of_active.Goals as goal
 
-at_hand : (c : Else-not-checked) → Sound c.args.state c.args.work.now
-at_hand c = record { bytes = λ i. omega (arith, c.type_inv.work i); long = c.well_formed.0.1.1.1.1.1.0.1.0.1; ok = sym (soundness_sound _ _ _ c.check-checked.ensures) ∙ not-false _ c.if-not-checked.false }
+pub returns-in_err-summary : goal.returns-in_err-summary
+returns-in_err-summary c =
+    let p = err_from_is_err_and c.from_residual.result c.from_residual.ensures.1 in
+    rw (p.1 ∙ ap Err p.2)
+    (check_refuses c.args.state c.args.work.now (λ i. omega (arith, c.type_inv.work i)) (c.well_formed.0.1.1.1.1.1.0.1.0.1) true _ c.check.ensures _ figures c.in_err-summary.was)
 
-pub returns-then-not-checked : goal.returns-then-not-checked
-returns-then-not-checked c = let a = c.args in
-    refuses 6 c.refused.result c.refused.ensures (does_6 figures a.state a.work.now (sym (soundness_sound _ _ _ c.check-checked.ensures) ∙ not-true _ c.if-not-checked.true))
+pub returns-in-Some : goal.returns-in-Some
+returns-in-Some c =
+    sums c.args.state c.args.work.now (λ i. omega (arith, c.type_inv.work i)) (c.well_formed.0.1.1.1.1.1.0.1.0.1) c.check.ensures _ (c.in_ok-summary.was ∙ ap Ok c.in-Some.is)
 
-pub bounds-state-i : goal.bounds-state-i
-bounds-state-i c = active_in (at_hand (goal.at.bounds-state-i c).Else-not-checked)
-
-pub returns-in-Empty : goal.returns-in-Empty
-returns-in-Empty c = refuses 7 c.refused-in-Empty.result c.refused-in-Empty.ensures (does_7 (at_hand (goal.at.returns-in-Empty c).Else-not-checked) figures tt (empty_valid _ c.in-Empty.is))
-
-pub returns-in-Invalid : goal.returns-in-Invalid
-returns-in-Invalid c = refuses 7 c.refused-in-Invalid.result c.refused-in-Invalid.ensures (does_7 (at_hand (goal.at.returns-in-Invalid c).Else-not-checked) figures tt (invalid_valid _ c.in-Invalid.is))
-
-pub returns-in-Valid : goal.returns-in-Valid
-returns-in-Valid c = sums (at_hand (goal.at.returns-in-Valid c).Else-not-checked) c.in-Valid.is _ c.check-checked.ensures
+pub returns-in-None : goal.returns-in-None
+returns-in-None c =
+    refuses_7 c.args.state c.args.work.now (λ i. omega (arith, c.type_inv.work i)) (c.well_formed.0.1.1.1.1.1.0.1.0.1) c.check.ensures (c.in_ok-summary.was ∙ ap Ok c.in-None.is)

@@ -1,12 +1,9 @@
-use Prim.Native.Nat.{◌-◌, ◌≤◌}
+use Prim.Native.Nat.{◌-◌}
 use mathlib.Core.Path.{◌≡◌}
-use lib.ListN.{length, drop}
+use lib.ListN.{length}
 use Rattle.buffers.specs.Bytes.{over}
 use Rattle.leb128.specs.Leb128.{decoded_all}
 use Rattle.leb128.proofs.decode_all.Given as goal
 
-abbrev pub invariant-loop-i : goal.invariant-loop-i
-invariant-loop-i l = (l.i ≤ l.count) × (l.at ≤ length l.s) × (length l.out ≡ length l.initial.out) × (over 0 (decoded_all l.count (drop l.from l.s)) l.initial.out ≡ over l.i (decoded_all (l.count - l.i) (drop l.at l.s)) l.out)
-
-abbrev pub decreases-loop-i : goal.decreases-loop-i
-decreases-loop-i l = l.count - l.i
+abbrev pub invariant-loop-number : goal.invariant-loop-number
+invariant-loop-number l = over 0 (decoded_all (length l.initial.out) l.s) l.initial.out ≡ over l.number-index (decoded_all (length l.initial.out - l.number-index) l.rest) l.out

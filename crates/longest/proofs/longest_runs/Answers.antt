@@ -1,41 +1,44 @@
 use native.Mathlib.Omega.{arith}
+use mathlib.Core.Path.{sym, ◌∙◌}
+use Rattle.std.proofs.lemmas.Result.{err_from_is_err_and}
 use Rattle.buffers.specs.Bytes.{AllBelow}
+use Rattle.buffers.proofs.LoopSteps.{tail}
 use Rattle.run_log.proofs.Reading.{Accepted, accepted_log, from_inside}
-use Rattle.longest.proofs.Answers.{in_range_lem, slide_window, slide_refused, slide_many, slide_no_room, slide_room, slide_given}
-use Rattle.longest.proofs.longest_runs.Goals.{Else-valid-ne0}
+use Rattle.longest.proofs.Answers.{outside, inside, slide_window, slide_refused, slide_many, slide_no_room, slide_room, slide_given}
+use Rattle.longest.proofs.longest_runs.Goals.{In_ok-count}
 use Rattle.longest.proofs.longest_runs.Goals as goal
 
-taken : (c : Else-valid-ne0) → Accepted c.args.log.now c.validate-valid.result
-taken c = accepted_log c.args.log.now c.validate-valid.result c.validate-valid.ensures c.if-valid-ne0.false
+taken : (c : In_ok-count) → Accepted c.args.log.now c.in_ok-count.count
+taken c = accepted_log c.args.log.now (sym c.in_ok-count.was ∙ c.validate.ensures)
 
--- src/lib.rt:36:9
-pub returns-then-window : goal.returns-then-window
-returns-then-window c = rw c.refused.ensures (slide_window c.args.window c.args.log.now c.args.out.now c.if-window.true)
+pub returns-then-window-lt1 : goal.returns-then-window-lt1
+returns-then-window-lt1 c = slide_window c.args.window c.args.log.now c.args.out.now (outside c.args.window (λ a b. omega (arith, c.then-window-lt1.either)))
 
--- src/lib.rt:40:9
-pub returns-then-valid-ne0 : goal.returns-then-valid-ne0
-returns-then-valid-ne0 c = slide_refused c.args.window c.args.log.now c.args.out.now c.if-window.false c.validate-valid.ensures c.if-valid-ne0.true
+pub returns-in_err-count : goal.returns-in_err-count
+returns-in_err-count c =
+    let p = err_from_is_err_and c.from_residual.result c.from_residual.ensures.1 in
+    rw (p.1, p.2) (slide_refused c.args.window c.args.log.now c.args.out.now (inside c.args.window (omega arith) (omega arith)) (sym c.in_err-count.was ∙ c.validate.ensures))
 
--- src/lib.rt:43:9
-pub returns-then-valid-gt-ENTRIES_MOST : goal.returns-then-valid-gt-ENTRIES_MOST
-returns-then-valid-gt-ENTRIES_MOST c = rw c.refused-then-valid-gt-ENTRIES_MOST.ensures (slide_many c.args.window c.args.log.now c.args.out.now c.if-window.false c.validate-valid.ensures (taken (goal.at.returns-then-valid-gt-ENTRIES_MOST c).Else-valid-ne0) c.if-valid-gt-ENTRIES_MOST.true)
+pub returns-then-count-gt-ENTRIES_MOST : goal.returns-then-count-gt-ENTRIES_MOST
+returns-then-count-gt-ENTRIES_MOST c = slide_many c.args.window c.args.log.now c.args.out.now (inside c.args.window (omega arith) (omega arith)) (taken (goal.at.returns-then-count-gt-ENTRIES_MOST c).In_ok-count) c.if-count-gt-ENTRIES_MOST.true
 
--- src/lib.rt:45:9
-pub full_windows-windows-requires : goal.full_windows-windows-requires
-full_windows-windows-requires c = ((in_range_lem _ c.if-window.false).0, omega arith)
-
--- src/lib.rt:47:9
 pub returns-then-out-windows : goal.returns-then-out-windows
-returns-then-out-windows c = rw c.refused-then-out-windows.ensures (slide_no_room c.args.window c.args.log.now c.args.out.now c.if-window.false c.validate-valid.ensures (taken (goal.at.returns-then-out-windows c).Else-valid-ne0) (omega arith) c.full_windows-windows.ensures c.if-out-windows.true)
+returns-then-out-windows c = slide_no_room c.args.window c.args.log.now c.args.out.now (inside c.args.window (omega arith) (omega arith)) (taken (goal.at.returns-then-out-windows c).In_ok-count) (omega arith) c.saturating_sub-windows.ensures c.if-out-windows.true
 
--- src/lib.rt:49:5
+pub slice_bounds-slide-count : goal.slice_bounds-slide-count
+slice_bounds-slide-count c = from_inside c.args.log.now c.args.out.now (taken (goal.at.slice_bounds-slide-count c).In_ok-count) (λ i. omega (arith, c.type_inv.log i)) c.encoded_len-from.ensures.0
+
+pub slice_bounds-slide-start : goal.slice_bounds-slide-start
+slice_bounds-slide-start c = from_inside c.args.log.now c.args.out.now (taken (goal.at.slice_bounds-slide-start c).In_ok-count) (λ i. omega (arith, c.type_inv.log i)) c.encoded_len-from.ensures.0
+
 pub slide-requires : goal.slide-requires
-slide-requires c = let w = in_range_lem _ c.if-window.false in
+slide-requires c =
     let b : AllBelow 256 c.args.log.now = λ i. omega (arith, c.type_inv.log i) in
-    let t = (taken (goal.at.slide-requires c).Else-valid-ne0) in
-    (from_inside c.args.log.now c.args.out.now c.validate-valid.result c.validate-valid.ensures t b c.encoded_len.ensures.0, omega arith, w.0, w.1, slide_room c.args.window c.args.log.now c.args.out.now c.if-window.false c.validate-valid.ensures t (omega arith) c.full_windows-windows.ensures b c.encoded_len.ensures.0 c.if-out-windows.false)
+    let t = taken (goal.at.slide-requires c).In_ok-count in
+    let r = slide_room c.args.window c.args.log.now c.args.out.now (inside c.args.window (omega arith) (omega arith)) t (omega arith) c.saturating_sub-windows.ensures b c.encoded_len-from.ensures.0 c.if-out-windows.false in
+    (omega arith, omega arith, omega arith, rw (tail c.args.log.now c.encoded_len-from.result) r)
 
--- src/lib.rt:32:1
 pub returns : goal.returns
-returns c = let b : AllBelow 256 c.args.log.now = λ i. omega (arith, c.type_inv.log i) in
-    slide_given c.args.window c.args.log.now c.args.out.now c.if-window.false c.validate-valid.ensures (taken (goal.at.returns c).Else-valid-ne0) (omega arith) c.full_windows-windows.ensures b c.encoded_len.ensures.0 c.if-out-windows.false c.slide.ensures
+returns c =
+    let b : AllBelow 256 c.args.log.now = λ i. omega (arith, c.type_inv.log i) in
+    slide_given c.args.window c.args.log.now c.args.out.now (inside c.args.window (omega arith) (omega arith)) (taken (goal.at.returns c).In_ok-count) (omega arith) c.saturating_sub-windows.ensures b c.encoded_len-from.ensures.0 c.if-out-windows.false (rw (tail c.args.log.now c.encoded_len-from.result) at c.slide.ensures)

@@ -14,7 +14,7 @@ use Rattle.moving.proofs.copy_all_live.Goals.{After-size-n}
 use Rattle.moving.proofs.copy_all_live.Goals as goal
 
 -- the turn that the code is in, once it has the record's size
-turn_at : (c : After-size-n) → let a = c.args in let l = c.loop-at in (rs : List Record) → Holds a.w.now a.from a.end rs → MoveTurn l.w l.at a.end l.p (a.to + length (records_bytes (select live rs))) (over a.to (records_bytes (select live rs)) a.w.now) c.size-n.result
+turn_at : (c : After-size-n) → let a = c.args in let l = c.loop-at in (rs : List Record) → Holds a.w.now a.records.start a.records.end rs → MoveTurn l.w l.at a.records.end l.p (a.to + length (records_bytes (select live rs))) (over a.to (records_bytes (select live rs)) a.w.now) c.size-n.result
 turn_at c rs h = turn (c.loop-at.invariant.2 rs h) c.loop-at-test.true c.parse-header.result c.parse-header.ensures c.size-n.result c.size-n.ensures
 
 pub loop-at-init : goal.loop-at-init
@@ -52,4 +52,4 @@ pub returns : goal.returns
 returns c = let a = c.args in
     λ rs h.
     let d = done (c.loop-at.invariant.2 rs h) c.loop-at-test.false in
-    (d.0 ∙ stop_is a.w.now a.from a.end a.to rs h, d.1)
+    (d.0 ∙ stop_is a.w.now a.records.start a.records.end a.to rs h, d.1)

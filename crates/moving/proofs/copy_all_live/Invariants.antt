@@ -10,7 +10,7 @@ use Rattle.moving.proofs.LiveLaws.{ToMove}
 use Rattle.moving.proofs.copy_all_live.Given as goal
 
 abbrev pub invariant-loop-at : goal.invariant-loop-at
-invariant-loop-at l = (length l.w ≡ length l.initial.w) × (l.end ≤ length l.initial.w) × ((rs : List Record) → Holds l.initial.w l.from l.end rs → ToMove l.w l.at l.end l.p (l.to + length (records_bytes (select live rs))) (over l.to (records_bytes (select live rs)) l.initial.w))
+invariant-loop-at l = (length l.w ≡ length l.initial.w) × (l.records.end ≤ length l.initial.w) × ((rs : List Record) → Holds l.initial.w l.records.start l.records.end rs → ToMove l.w l.at l.records.end l.p (l.to + length (records_bytes (select live rs))) (over l.to (records_bytes (select live rs)) l.initial.w))
 
 abbrev pub decreases-loop-at : goal.decreases-loop-at
-decreases-loop-at l = l.end - l.at
+decreases-loop-at l = l.records.end - l.at

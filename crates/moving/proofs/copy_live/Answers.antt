@@ -18,7 +18,7 @@ returns c =
     let p = c.requires in
     let left : c.if-at-to.w ≡ over a.to (take a.n (drop a.at a.w.now)) a.w.now =
     elim c.if-at-to.branch [
-      | then-at-to w ↦ w.w-is ∙ w.copy_within.ensures
+      | then-at-to w ↦ w.w-is ∙ w.copy.ensures
       | else-at-to w ↦ w.w-is ∙ copy_self a.at a.to a.n a.w.now w.if-at-to.false p.1
     ] in
     copy_live_live a.w.now a.at a.to a.n p.0 c.if-w-at-ne-ADDED.false p.1 c.if-at-to.w left

@@ -1,17 +1,11 @@
--- `any_valid`: whether one is Valid is whether one from i on is (`ToSearch`); `any_start` and `any_next` are start and turn, `any_found` and
--- `any_none` the exits.
-use native.Mathlib.Omega.{arith}
-use Rattle.opening.proofs.OpeningLaws.{any_start, any_found, any_next, any_none}
+use mathlib.Core.Path.{◌∙◌}
+use Rattle.std.proofs.Common.{rules}
+use Rattle.std.proofs.lemmas.Iterator.{YieldsList-from_slice}
+use Rattle.std.proofs.lemmas.Iterator.Search.{any_from_yields_List}
+use Rattle.bank.specs.Read.{read_bank}
+use Rattle.book.specs.Opening.{is_valid}
+use Rattle.opening.proofs.OpeningLaws.{any_read}
 use Rattle.opening.proofs.any_valid.Goals as goal
 
-pub loop-i-init : goal.loop-i-init
-loop-i-init c = (omega arith, any_start c.args.image.now c.args.n)
-
-pub returns-then-is_valid : goal.returns-then-is_valid
-returns-then-is_valid c = let a = c.args in let l = c.loop-i in any_found a.image.now a.n l.i l.invariant.1 (omega arith) c.is_valid.result c.is_valid.ensures c.if-is_valid.true
-
-pub loop-i-preserved : goal.loop-i-preserved
-loop-i-preserved c = let a = c.args in let l = c.loop-i in (omega arith, any_next a.image.now a.n l.i l.invariant.1 (omega arith) c.is_valid.result c.is_valid.ensures c.if-is_valid.false)
-
 pub returns : goal.returns
-returns c = let l = c.loop-i in any_none c.args.image.now c.args.n l.i l.invariant.1 (omega arith)
+returns c = any_from_yields_List (λ b. is_valid (read_bank b)) _ _ _ c.any.ensures.ran (YieldsList-from_slice c.args.banks.now cc) (λ x b q k. search rules) ∙ any_read c.args.banks.now

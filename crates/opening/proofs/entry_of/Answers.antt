@@ -1,22 +1,20 @@
--- `entry_of`: each case by `entry_is`; total and usable of a Valid slot that is well-formed fit 32 bits (`cast_fits`).
-use Rattle.opening.proofs.LoadLaws.{entry_is, cast_fits}
+-- `entry_of`: total and usable of a Valid slot that is well-formed fit 32 bits.
 use native.Mathlib.Omega.{arith}
+use mathlib.Core.Path.{sym, ◌∙◌}
+use Rattle.opening.proofs.LoadLaws.{told_valid, told_empty, told_invalid, cast_fits}
 use Rattle.opening.proofs.entry_of.Goals as goal
 
-pub overflow_cast-result : goal.overflow_cast-result
-overflow_cast-result c = omega (arith, (cast_fits c.args.slot c.in-Valid.p c.requires c.in-Valid.is).0)
+pub overflow_cast-kind : goal.overflow_cast-kind
+overflow_cast-kind c = omega (arith, (cast_fits c.args.slot c.in-Valid.p c.in-Valid.is c.requires).0)
 
-pub overflow_cast-result-in-Valid : goal.overflow_cast-result-in-Valid
-overflow_cast-result-in-Valid c = omega (arith, (cast_fits c.args.slot c.in-Valid.p c.requires c.in-Valid.is).1)
-
-pub returns-in-Short : goal.returns-in-Short
-returns-in-Short c = entry_is c.args.slot _ c.in-Short.is
-
-pub returns-in-Empty : goal.returns-in-Empty
-returns-in-Empty c = entry_is c.args.slot _ c.in-Empty.is
-
-pub returns-in-Invalid : goal.returns-in-Invalid
-returns-in-Invalid c = entry_is c.args.slot _ c.in-Invalid.is
+pub overflow_cast-kind-in-Valid : goal.overflow_cast-kind-in-Valid
+overflow_cast-kind-in-Valid c = omega (arith, (cast_fits c.args.slot c.in-Valid.p c.in-Valid.is c.requires).1)
 
 pub returns-in-Valid : goal.returns-in-Valid
-returns-in-Valid c = entry_is c.args.slot _ c.in-Valid.is
+returns-in-Valid c = λ k e. sym (told_valid c.args.slot c.in-Valid.p c.in-Valid.is k e).1
+
+pub returns-in-Empty : goal.returns-in-Empty
+returns-in-Empty c = λ k e. told_empty k (sym e ∙ c.in-Empty.is)
+
+pub returns-in-Invalid : goal.returns-in-Invalid
+returns-in-Invalid c = λ k e. told_invalid k (sym e ∙ c.in-Invalid.is)

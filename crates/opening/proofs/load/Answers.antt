@@ -1,34 +1,30 @@
 -- `load`: entries and parts are those of the first i banks, and which is active is left to those behind (`Loaded`); `load_none` and `load_more` are
 -- start and turn, `load_state` and `load_work` the end.
 use native.Mathlib.Omega.{arith}
-use Rattle.book.specs.Opening.{slot_in}
-use Rattle.book.proofs.OpenFine.{bank_fine}
-use Rattle.opening.proofs.LoadLaws.{load_none, load_more, load_state, load_work}
+use mathlib.Core.Path.{refl, sym}
+use mathlib.Core.List.{[]}
+use Prim.Native.Nat.{◌+◌, ◌-◌, ◌*◌}
+use lib.ListN.{length, length-map, get_or-map}
+use borrow.Rule.Slice.PartMut.{same_len_mid}
+use Rattle.bank.specs.Read.{read_bank}
+use Rattle.opening.proofs.LoadLaws.{part_back, load_none, load_more, load_state, load_work}
 use Rattle.opening.proofs.load.Goals as goal
 
 pub loop-i-init : goal.loop-i-init
-loop-i-init c = let a = c.args in load_none a.image.now a.work.now a.n c.no_banks-banks.result c.no_banks-banks.ensures
+loop-i-init c = load_none _ _ _ c.no_banks-entries.ensures
 
 pub entry_of-requires : goal.entry_of-requires
-entry_of-requires c = let s = c.args.image.now in let i = c.loop-i.i in (
-  slot_in s i,
-  c.load_bank-slot.ensures.0,
-  bank_fine s i (λ j. omega (arith, c.type_inv.image j)) (omega arith),
-)
+entry_of-requires c = (_, c.load_bank-slot.ensures.0, c.load_bank-slot.ensures.1)
 
 pub loop-i-preserved : goal.loop-i-preserved
-loop-i-preserved c = let a = c.args in
-    let l = c.loop-i in
-    let r = c.load_bank-slot in
-    let k = slot_in a.image.now l.i in
-    load_more a.image.now a.work.now a.n l.i l.work l.banks l.best.generation l.best.active l.invariant
-    r.new.work c.entry_of.result c.after-best.result.generation c.after-best.result.active
-    (omega arith) (omega arith) (omega arith) r.auto.work r.ensures.1
-    (c.entry_of.ensures k r.ensures.0) (λ rest. c.after-best.ensures k rest r.ensures.0)
+loop-i-preserved c = let l = c.loop-i in let r = c.load_bank-slot in let bs = c.args.banks.now in
+    load_more _ c.args.work.now l.i l.work l.entries _ _ l.invariant _ _ _ _ (read_bank []) _ (omega (arith, length-map bs read_bank)) (omega (arith, length-map bs read_bank)) (omega (arith, length-map bs read_bank))
+    (get_or-map read_bank bs l.i []) (same_len_mid (l.i * 131072) (l.i * 131072 + 131072 - l.i * 131072) l.work r.new.part r.auto.part)
+    (part_back l.work r.new.part _ l.i (l.i * 131072) (l.i * 131072 + 131072) refl refl r.ensures.2)
+    (c.entry_of.ensures _ r.ensures.0) (λ rest. c.after-best.ensures _ rest r.ensures.0)
 
 pub returns : goal.returns
-returns c = let a = c.args in
-    let l = c.loop-i in (
-      load_state a.image.now a.work.now a.n l.i l.work l.banks l.best.generation l.best.active l.invariant (omega arith) _ c.none-tally.ensures,
-      load_work a.image.now a.work.now a.n l.i l.work l.banks l.best.generation l.best.active l.invariant (omega arith),
-    )
+returns c = let l = c.loop-i in let bs = c.args.banks.now in (
+  load_state _ c.args.work.now l.i l.work l.entries _ _ l.invariant (length bs) (sym (length-map bs read_bank)) c.loop-i-test.false _ c.none.ensures,
+  load_work _ c.args.work.now l.i l.work l.entries _ _ l.invariant (length bs) (sym (length-map bs read_bank)) c.loop-i-test.false,
+)

@@ -1,23 +1,20 @@
--- `parse`: its five exits in the order of `opening`, a law for each: `open_1` to `open_4` leave the work area, `open_all` has what `load` leaves.
 use native.Mathlib.Omega.{arith}
 use Rattle.opening.proofs.OpeningLaws.{open_1, open_2, open_3, open_4, open_all}
 use Rattle.opening.proofs.parse.Goals as goal
 
 pub returns-then-image-lt-SIZE : goal.returns-then-image-lt-SIZE
-returns-then-image-lt-SIZE c = let a = c.args in let r = c.refused in open_1 a.image.now a.work.now r.result.number r.result.state r.ensures.0 r.ensures.1 (omega arith)
+returns-then-image-lt-SIZE c = open_1 _ _ (omega arith)
 
 pub returns-then-image : goal.returns-then-image
-returns-then-image c = let a = c.args in let r = c.refused-then-image in open_2 a.image.now a.work.now (omega arith) r.result.number r.result.state r.ensures.0 r.ensures.1 (omega arith)
+returns-then-image c = open_2 _ _ (omega arith) (omega arith)
 
-pub returns-then-work-n : goal.returns-then-work-n
-returns-then-work-n c = let a = c.args in let r = c.refused-then-work-n in open_3 a.image.now a.work.now (omega arith) (omega arith) r.result.number r.result.state r.ensures.0 r.ensures.1 (omega arith)
+pub returns-then-work-banks : goal.returns-then-work-banks
+returns-then-work-banks c = let k = c.as_chunks in open_3 _ _ (omega arith) (omega arith) (omega (arith, k.ensures.front_len))
 
 pub returns-then-not-any_valid : goal.returns-then-not-any_valid
-returns-then-not-any_valid c = let a = c.args in let r = c.refused-then-not-any_valid in let v = c.any_valid in
-    open_4 a.image.now a.work.now (omega arith) (omega arith) (omega arith) v.result v.ensures r.result.number r.result.state r.ensures.0 r.ensures.1
-    (c.if-not-any_valid.true)
+returns-then-not-any_valid c = let k = c.as_chunks in let v = c.any_valid in
+    open_4 c.args.image.now c.args.work.now (omega arith) (omega arith) (omega (arith, k.ensures.front_len)) _ k.ensures.front v.result v.ensures c.if-not-any_valid.true
 
 pub returns : goal.returns
-returns c = let a = c.args in let v = c.any_valid in let r = c.load in
-    open_all a.image.now a.work.now (omega arith) (omega arith) (omega arith) v.result v.ensures r.result r.new.work r.ensures.0 r.ensures.1
-    (c.if-not-any_valid.false)
+returns c = let k = c.as_chunks in let v = c.any_valid in
+    open_all c.args.image.now c.args.work.now (omega arith) (omega arith) (omega (arith, k.ensures.front_len)) _ k.ensures.front v.result v.ensures _ k.ensures.front_len _ _ c.load.ensures c.if-not-any_valid.false

@@ -1,23 +1,43 @@
-use mathlib.Core.Path.{ap, ◌∙◌}
-use Rattle.buffers.proofs.Laws.{and_both}
-use Rattle.rate.specs.Rate.{magnitude, thirds}
-use Rattle.rate.specs.Answer.{from_thirds, on_thirds}
-use Rattle.rate.proofs.Thirds.{rate_range}
-use Rattle.rate.proofs.Answers.{none_or_one, both}
+use mathlib.Core.Path.{◌≡◌, ◌∙◌}
+use lib.IntN.{ℤ, ◌+ℤ◌}
+use Rattle.std.proofs.lemmas.Result.{err_from_is_err_and}
+use Rattle.rate.specs.Rate.{magnitude, signed}
+use Rattle.rate.specs.Answer.{operation_of, on_thirds}
 use Rattle.rate.proofs.Sums.{operation}
+use Rattle.rate.proofs.Thirds.{rate_shows, thirds_is}
+use Rattle.rate.proofs.Answers.{first_refused, second_refused, both_taken}
+use Rattle.rate.proofs.combine.Goals.{in-Add, in-Subtract}
 use Rattle.rate.proofs.combine.Goals as goal
 
-pub returns-then-not-is_rate : goal.returns-then-not-is_rate
+pub returns-in_err-a : goal.returns-in_err-a
 unfolding on_thirds
-returns-then-not-is_rate c = let a = c.args in rw (none_or_one a.a a.b c.is_rate.ensures c.is_rate-2.ensures c.if-not-is_rate.true-raw) c.refused.ensures
+returns-in_err-a c =
+    let p = err_from_is_err_and c.from_residual.result c.from_residual.ensures.1 in
+    let e = c.in_err-a.ensures in
+    rw (p.1, p.2, e.1) (first_refused c.args.a c.args.b _ e.0)
 
-pub signed_sum-requires : goal.signed_sum-requires
-signed_sum-requires c = let a = c.args in
-    let r = and_both _ _ (both a.a a.b c.is_rate.ensures c.is_rate-2.ensures c.if-not-is_rate.false-raw) in
-    (r.0, rate_range a.b r.1)
+pub returns-in_err-b : goal.returns-in_err-b
+unfolding on_thirds
+returns-in_err-b c =
+    let p = err_from_is_err_and c.from_residual-in_err-b.result c.from_residual-in_err-b.ensures.1 in
+    let e = c.in_err-b.ensures in
+    rw (p.1, p.2, e.1) (second_refused c.args.a c.args.b _ e.0)
+
+pub plus-requires : goal.plus-requires
+plus-requires c = let e = c.in_ok-a.ensures in
+    rw (e.1.0, e.1.1) (rate_shows c.args.a e.0).some
 
 pub returns : goal.returns
-unfolding on_thirds thirds
+unfolding on_thirds
 returns c = let a = c.args in
-    let b = a.b in
-    rw (both a.a b c.is_rate.ensures c.is_rate-2.ensures c.if-not-is_rate.false-raw) (c.signed_sum.ensures ∙ rw c.sign_in.ensures (ap from_thirds (operation a.operation (thirds a.a) b.minus (magnitude b.places))))
+    let e = c.in_ok-a.ensures in
+    let f = c.in_ok-b.ensures in
+    let s = c.match-operation.plus in
+    let b = c.in_ok-b.b in
+    let second : (x : ℤ) → x +ℤ signed s.minus (magnitude s.places.numbers) ≡ operation_of a.operation x (signed b.minus (magnitude b.places.numbers)) =
+    λ x. elim c.match-operation.branch [
+      | in-Add w ↦ rw (w.in-Add.is, w.plus-is) (operation x b.minus (magnitude b.places.numbers)).0
+      | in-Subtract w ↦ rw (w.in-Subtract.is, w.plus-is, w.negated.ensures.0, w.negated.ensures.1) (operation x b.minus (magnitude b.places.numbers)).1
+    ] in
+    c.plus.ensures
+    ∙ rw (second, thirds_is a.a e.1.0 e.1.1, thirds_is a.b f.1.0 f.1.1) (both_taken a.a a.b _ e.0 f.0)

@@ -1,26 +1,33 @@
-use mathlib.Core.Path.{◌≡◌, refl}
-use mathlib.Core.Bool.{cond}
-use Rattle.rate.specs.declared.Order.TheVariants.{Less, Equal, Greater}
+use mathlib.Core.Path.{sym}
+use native.Mathlib.Omega.{arith}
+use lib.IntN.{nat_abs}
+use Prim.Native.Nat.{◌<◌}
+use Rattle.std.proofs.lemmas.Result.{err_from_is_err_and}
 use Rattle.rate.specs.Answer.{order_of}
-use Rattle.rate.proofs.Answers.{none_or_one, ordered}
-use Rattle.rate.proofs.compare.Goals.{After-is_less-2}
+use Rattle.rate.proofs.Signs.{held}
+use Rattle.rate.specs.Rate.{thirds}
+use Rattle.rate.proofs.Thirds.{thirds_below}
+use Rattle.rate.proofs.Answers.{refuses, takes, first_refused, second_refused, both_taken}
 use Rattle.rate.proofs.compare.Goals as goal
 
--- by both tests
-answer : (c : After-is_less-2) → cond c.is_less.result Less (cond c.is_less-2.result Greater Equal) ≡ order_of c.args.a c.args.b
-answer c = let a = c.args in
-    ordered a.a a.b c.is_rate.ensures c.is_rate-2.ensures c.if-not-is_rate.false-raw c.is_less.ensures c.is_less-2.ensures
-
-pub returns-then-not-is_rate : goal.returns-then-not-is_rate
+pub returns-in_err-a : goal.returns-in_err-a
 unfolding order_of
-returns-then-not-is_rate c = let a = c.args in rw (none_or_one a.a a.b c.is_rate.ensures c.is_rate-2.ensures c.if-not-is_rate.true-raw)
+returns-in_err-a c =
+    let p = err_from_is_err_and c.from_residual.result c.from_residual.ensures.1 in
+    let e = refuses c.args.a _ (sym c.in_err-a.ensures) in
+    rw (p.1, p.2, e.1) (first_refused c.args.a c.args.b _ e.0)
 
-pub returns-then-is_less : goal.returns-then-is_less
-returns-then-is_less c = let a = c.args in
-    rw c.if-is_less.true at (ordered a.a a.b c.is_rate.ensures c.is_rate-2.ensures c.if-not-is_rate.false-raw c.is_less.ensures refl)
-
-pub returns-then-is_less-2 : goal.returns-then-is_less-2
-returns-then-is_less-2 c = rw (c.if-is_less.false, c.if-is_less-2.true) at (answer (goal.at.returns-then-is_less-2 c).After-is_less-2)
+pub returns-in_err-b : goal.returns-in_err-b
+unfolding order_of
+returns-in_err-b c =
+    let p = err_from_is_err_and c.from_residual-in_err-b.result c.from_residual-in_err-b.ensures.1 in
+    let e = refuses c.args.b _ (sym c.in_err-b.ensures) in
+    rw (p.1, p.2, e.1) (second_refused c.args.a c.args.b _ e.0)
 
 pub returns : goal.returns
-returns c = rw (c.if-is_less.false, c.if-is_less-2.false) at (answer (goal.at.returns c).After-is_less-2)
+unfolding order_of
+returns c = let e = takes c.args.a _ (sym c.in_ok-a.ensures) in
+    let f = takes c.args.b _ (sym c.in_ok-b.ensures) in
+    let j : nat_abs (thirds c.args.a) < 9223372036854775808 = omega (arith, thirds_below c.args.a e.0) in
+    let k : nat_abs (thirds c.args.b) < 9223372036854775808 = omega (arith, thirds_below c.args.b f.0) in
+    rw (c.cmp.ensures, e.1, f.1, held (thirds c.args.a) j, held (thirds c.args.b) k) (both_taken c.args.a c.args.b _ e.0 f.0)

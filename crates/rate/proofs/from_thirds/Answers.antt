@@ -1,27 +1,24 @@
-use Prim.Native.Nat.{◌<◌}
-use mathlib.Core.Path.{◌≡◌, sym, ◌∙◌}
-use mathlib.Core.Bool.{false}
-use lib.Dec.{ltb}
+use mathlib.Core.Path.{◌≡◌}
+use native.Mathlib.Omega.{arith}
+use Prim.Native.Nat.{◌<◌, ◌≤◌}
 use lib.IntN.{nat_abs}
 use mir.Syntax.{w64}
 use mir.ValLaws.{to_z-of_z}
-use borrow.Author.Tests.{ltb-true}
+use borrow.Author.Tests.{lt-ltb, le-ltb}
+use Rattle.rate.specs.Rate.{rate_of}
 use Rattle.rate.specs.Answer.{from_thirds}
-use Rattle.rate.proofs.Sums.{placed_thirds}
 use Rattle.rate.proofs.from_thirds.Goals as goal
 
-pub returns-then-not-within : goal.returns-then-not-within
+pub returns-then-n-ge-DAY : goal.returns-then-n-ge-DAY
 unfolding from_thirds
-returns-then-not-within c = let e : ltb (nat_abs c.args.z) 5184000 ≡ false = rw (to_z-of_z w64 c.args.z c.ranges.z) at (sym c.within.ensures ∙ c.if-not-within.true) in
-    rw e c.refused.ensures
-
-pub size-requires : goal.size-requires
-size-requires c = ltb-true _ _ (sym c.within.ensures ∙ c.if-not-within.false)
-
-pub places_of-requires : goal.places_of-requires
-places_of-requires c = rw c.size.ensures (ltb-true _ _ (sym c.within.ensures ∙ c.if-not-within.false))
+returns-then-n-ge-DAY c =
+    let e : c.unsigned_abs-n.result ≡ nat_abs c.args.z = rw (to_z-of_z w64 c.args.z c.ranges.z) at c.unsigned_abs-n.ensures.value in
+    let h : 5184000 ≤ nat_abs c.args.z = omega (arith, e) in
+    rw (le-ltb _ _ h)
 
 pub returns : goal.returns
+unfolding from_thirds rate_of
 returns c = let k = to_z-of_z w64 c.args.z c.ranges.z in
-    let h : nat_abs c.args.z < 5184000 = ltb-true _ _ (rw k at (sym c.within.ensures ∙ c.if-not-within.false)) in
-    c.accepted.ensures ∙ rw (c.less.ensures, c.places_of.ensures, c.size.ensures, k) (placed_thirds c.args.z h)
+    let e : c.unsigned_abs-n.result ≡ nat_abs c.args.z = rw k at c.unsigned_abs-n.ensures.value in
+    let h : nat_abs c.args.z < 5184000 = omega (arith, e) in
+    rw (lt-ltb _ _ h, k, c.places_of.ensures, e)

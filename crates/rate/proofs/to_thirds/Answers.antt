@@ -9,5 +9,4 @@ returns-then-not-is_rate c = rw (sym c.is_rate.ensures ∙ c.if-not-is_rate.true
 
 pub returns : goal.returns
 unfolding to_thirds
-returns c = let x = c.whole_thirds in
-    rw (sym c.is_rate.ensures ∙ c.if-not-is_rate.false, kept x.result x.type_inv, x.ensures)
+returns c = let x = c.thirds in rw (sym c.is_rate.ensures ∙ c.if-not-is_rate.false, kept x.result x.type_inv, x.ensures)

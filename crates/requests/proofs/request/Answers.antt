@@ -1,4 +1,3 @@
-use mathlib.Core.Logic.{inl, inr}
 use Rattle.requests.proofs.RequestLaws.{request_none, request_some}
 use Rattle.requests.proofs.request.Goals as goal
 
@@ -6,7 +5,4 @@ pub returns-in-Empty : goal.returns-in-Empty
 returns-in-Empty c = request_none _ c.in-Empty.is
 
 pub returns-in-Invalid : goal.returns-in-Invalid
-returns-in-Invalid c = request_some _ (inl c.in-Invalid.is)
-
-pub returns-in-Valid : goal.returns-in-Valid
-returns-in-Valid c = request_some _ (inr c.in-Valid.is)
+returns-in-Invalid c = request_some _ c.in-Invalid.is

@@ -6,4 +6,7 @@ use Rattle.requests.proofs.RequestLaws.{front_written}
 use Rattle.requests.proofs.write.Goals as goal
 
 pub returns : goal.returns
-returns c = let a = c.args in let p = c.requires in (refl, refl, refl, front_written (a.state.active * 131072) a.size a.work.now a.output.now _ (omega (arith, p)) (omega (arith, p)) c.copy.ensures)
+returns c =
+    let a = c.args in
+    let p = c.requires in
+    (refl, refl, front_written (a.i * 131072) a.size a.work.now a.output.now _ (omega (arith, p)) (omega (arith, p)) c.copy.ensures)

@@ -1,7 +1,6 @@
-use mathlib.Core.Path.{ap, ◌∙◌}
-use Rattle.state_bytes.specs.State.{kind_of, entry_at}
+use mathlib.Core.Path.{◌∙◌}
+use Rattle.state_bytes.proofs.LoopLaws.{entry_some}
 use Rattle.state_bytes.proofs.entry_at.Goals as goal
 
 pub returns : goal.returns
-unfolding entry_at
-returns c = λ i. record { kind = (c.kind_of-kind.ensures ∙ ap kind_of c.u32_at.ensures) i; total = c.u32_at-total.ensures i; usable = c.u32_at-usable.ensures i }
+returns c = entry_some _ _ _ _ (c.in-Ok.ensures ∙ c.u32_at.ensures) c.u32_at-total.ensures c.u32_at-usable.ensures

@@ -3,22 +3,21 @@
 use mathlib.Core.Path.{◌≡◌, sym, ap, ◌∙◌}
 use native.Mathlib.Omega.{arith}
 use lib.ListN.{length}
-use Rattle.state_bytes.specs.State.{loaded}
 use Rattle.state_bytes.proofs.LoopLaws.{reading_none, unknown, reading_more, read_all, read_short}
 use Rattle.state_bytes.proofs.load.Goals as goal
 
 pub returns-then-bytes-lt-STATE : goal.returns-then-bytes-lt-STATE
-returns-then-bytes-lt-STATE c = c.no_load.ensures ∙ ap loaded (sym (read_short _ c.if-bytes-lt-STATE.true))
+returns-then-bytes-lt-STATE c = sym (read_short _ c.if-bytes-lt-STATE.true)
 
 pub loop-i-init : goal.loop-i-init
 loop-i-init c = reading_none _ _ (ap length c.no_banks-banks.ensures) c.if-bytes-lt-STATE.false
 
-pub returns-then-u32_at-gt2 : goal.returns-then-u32_at-gt2
-returns-then-u32_at-gt2 c = c.no_load-then-u32_at-gt2.ensures ∙ ap loaded (sym (unknown c.loop-i.invariant c.loop-i-test.true _ c.u32_at.ensures c.if-u32_at-gt2.true))
+pub returns-in_err-banks : goal.returns-in_err-banks
+returns-in_err-banks c = c.from_residual.ensures ∙ sym (unknown c.loop-i.invariant c.loop-i-test.true (sym c.in_err-banks.was ∙ c.entry_at.ensures))
 
 pub loop-i-preserved : goal.loop-i-preserved
-loop-i-preserved c = reading_more c.loop-i.invariant c.loop-i-test.true _ _ c.u32_at.ensures c.if-u32_at-gt2.false c.entry_at.ensures
+loop-i-preserved c = reading_more c.loop-i.invariant c.loop-i-test.true _ (sym c.in_ok-banks.was ∙ c.entry_at.ensures)
 
 pub returns : goal.returns
 returns c = let e : c.loop-i.i ≡ 16 = omega (arith, c.loop-i.invariant.high, c.loop-i-test.false) in
-    ap loaded (sym (read_all c.loop-i.invariant _ _ _ _ e c.u32_at-4.ensures c.u32_at-5.ensures c.u32_at-2.ensures c.u32_at-3.ensures))
+    sym (read_all c.loop-i.invariant _ _ _ _ e c.u32_at-3.ensures c.u32_at-4.ensures c.u32_at.ensures c.u32_at-2.ensures)

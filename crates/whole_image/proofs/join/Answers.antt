@@ -1,61 +1,63 @@
--- `join`: if no slot is overfull, the output begins with the bytes of the slots before i and is as it was behind them (`Joined`); `begin`, `more`
--- and `done` are start, turn and end. `at` is at most i × 65,536, so that the output has room.
+-- `join`: if no slot is overfull, the output begins with the bytes of the slots so far and is as it was behind them (`Joined`); `begin`, `more`
+-- and `done` are start, turn and end. `at` is at most 65,536 for each slot, so that the output has room.
 use native.Mathlib.Omega.{arith}
-use Prim.Native.Nat.{◌-◌, ◌≤◌}
-use mathlib.Core.Path.{refl, ◌∙◌}
-use lib.ListN.{length, get_or}
+use Prim.Native.Nat.{◌+◌, ◌-◌, ◌≤◌}
+use mathlib.Core.Path.{◌≡◌, refl, sym, ap, ◌∙◌}
+use mathlib.Core.List.{[]}
+use lib.Seq.{length-take-le}
+use lib.ListN.{length, take, drop, length-take, length-drop}
 use borrow.Rule.Slice.PartMut.{same_len_mid}
-use Rattle.bank.specs.Bank.{invalid}
-use Rattle.whole_image.proofs.ImageLaws.{SlotHere, here, size_fits, begin, more, done}
-use Rattle.whole_image.proofs.join.Goals.{After-slot_size-size, In-loop-i}
+use Rattle.std.proofs.lemmas.Slice.Zip.{zip_turn, zip_end}
+use Rattle.std.proofs.lemmas.List.{length_push}
+use Rattle.whole_image.proofs.ImageLaws.{Turn, entries_long, parts_long, size_fits, onto_same, begin, more, done}
+use Rattle.whole_image.proofs.join.Goals.{After-slot_size-size}
 use Rattle.whole_image.proofs.join.Goals as goal
 
-slot : (c : In-loop-i) → let i = c.loop-i.i in SlotHere c.args.state.banks c.args.work.now i (get_or c.requires.0.0 i invalid)
-slot c = here c.requires.0.1 c.loop-i-test.true
+turn : (c : After-slot_size-size) → Turn c.args.entries.now c.args.parts.now (length c.loop-entry.yielded) c.in-Some.entry.now c.in-Some.part.now c.slot_size-size.result
+turn c =
+    let l = c.loop-entry in
+    let t = zip_turn c.args.entries.now c.args.parts.now l.yielded c.into_iter-entry-iterator.result l.entry-iterator c.next.new.self c.next.result (cc) (cc) l.yielded_by _ c.in-Some.is c.next.ensures.steps in
+    record { here = t.0; entry_is = t.2; part_is = t.3; size_is = c.slot_size-size.ensures }
 
-fits : (c : After-slot_size-size) (slot : let i = c.loop-i.i in SlotHere c.args.state.banks c.args.work.now i (get_or c.requires.0.0 i invalid)) → c.slot_size-size.result ≤ 65536
-fits c slot = size_fits slot (c.slot_size-size.ensures _ c.requires.0.1)
+fits : (c : After-slot_size-size) → c.loop-entry.at + 65536 ≤ length c.args.output.now
+fits c = let t = turn c in omega (arith, t.here, c.loop-entry.invariant.low, c.requires.1)
 
-pub loop-i-init : goal.loop-i-init
-loop-i-init c = (refl, omega arith, λ ss s q. begin ss c.args.output.now)
+part_long : (c : After-slot_size-size) → length c.in-Some.part.now ≡ 131072
+part_long c = let t = turn c in ap length (t.part_is []) ∙ c.told-parts _ (omega (arith, t.here, entries_long c.requires.0.1, parts_long c.requires.0.1))
 
-pub slot_size-size-requires : goal.slot_size-size-requires
-slot_size-size-requires c = (c.requires.0, c.loop-i-test.true)
+small : (c : After-slot_size-size) → c.slot_size-size.result ≤ 65536
+small c = size_fits (turn c) c.requires.0.1
 
-pub overflow_mul-a : goal.overflow_mul-a
-overflow_mul-a c = omega (arith, (slot (goal.at.overflow_mul-a c).In-loop-i).low)
-
-pub overflow_add-end : goal.overflow_add-end
-overflow_add-end c = omega (arith, (slot (goal.at.overflow_add-end c).In-loop-i).low, (fits c (slot (goal.at.overflow_add-end c).In-loop-i)))
-
-pub slice_bounds-copy-end : goal.slice_bounds-copy-end
-slice_bounds-copy-end c = omega (arith, (slot (goal.at.slice_bounds-copy-end c).In-loop-i).within, (fits c (slot (goal.at.slice_bounds-copy-end c).In-loop-i)))
-
-pub slice_bounds-copy-count-in-loop-i : goal.slice_bounds-copy-count-in-loop-i
-slice_bounds-copy-count-in-loop-i c = omega (arith, c.loop-i-test.true, c.loop-i.invariant.0, c.loop-i.invariant.1, c.requires.1)
-
-pub slice_bounds-copy-start-in-loop-i : goal.slice_bounds-copy-start-in-loop-i
-slice_bounds-copy-start-in-loop-i c = omega (arith, c.loop-i-test.true, c.loop-i.invariant.0, c.loop-i.invariant.1, c.requires.1)
+pub loop-entry-init : goal.loop-entry-init
+loop-entry-init c = record { kept = refl; low = omega arith; joined = λ ss s q. begin ss c.args.output.now }
 
 pub overflow_add-at : goal.overflow_add-at
-overflow_add-at c = omega (arith, (slot (goal.at.overflow_add-at c).In-loop-i).low, c.loop-i.invariant.1, (fits (goal.at.overflow_add-at c).After-slot_size-size (slot (goal.at.overflow_add-at c).In-loop-i)))
+overflow_add-at c = let here = (goal.at.overflow_add-at c).After-slot_size-size in omega (arith, fits here, small here)
 
-pub overflow_add-i : goal.overflow_add-i
-overflow_add-i c = omega (arith, (slot (goal.at.overflow_add-i c).In-loop-i).low)
+pub slice_bounds-copy-end-in-loop-entry : goal.slice_bounds-copy-end-in-loop-entry
+slice_bounds-copy-end-in-loop-entry c =
+    let here = (goal.at.slice_bounds-copy-end-in-loop-entry c).After-slot_size-size in omega (arith, fits here, small here, c.loop-entry.invariant.kept)
 
-pub loop-i-smaller : goal.loop-i-smaller
-loop-i-smaller c = omega (arith, c.loop-i-test.true)
+pub shared_ref_as_front-copy : goal.shared_ref_as_front-copy
+shared_ref_as_front-copy c = omega (arith, small (goal.at.shared_ref_as_front-copy c).After-slot_size-size)
 
-pub loop-i-preserved : goal.loop-i-preserved
-loop-i-preserved c = let l = c.loop-i in let h = c.loop-i-test.true in let n = c.copy in
-    let r = (fits (goal.at.loop-i-preserved c).After-slot_size-size (slot (goal.at.loop-i-preserved c).In-loop-i)) in (
-      same_len_mid l.at (length l.output - l.at) l.output n.new.dst n.auto.dst ∙ l.invariant.0,
-      omega (arith, l.invariant.1, r),
-      λ ss s q. more s q h (c.slot_size-size.ensures ss s) (l.invariant.2 ss s q) (omega (arith, h, l.invariant.0, l.invariant.1, c.requires.1, r)) n.new.dst n.ensures,
-    )
-
-pub shape_of-output : goal.shape_of-output
-shape_of-output c = c.loop-i.invariant.0
+pub loop-entry-preserved : goal.loop-entry-preserved
+loop-entry-preserved c =
+    let here = (goal.at.loop-entry-preserved c).After-slot_size-size in
+    let l = c.loop-entry in
+    let n = c.slot_size-size.result in
+    let x = c.copy in
+    let p = length_push l.yielded (c.in-Some.entry, c.in-Some.part) in
+    let lent : length (take (l.at + n - l.at) (drop l.at l.output)) ≡ n = simp (length-take, length-drop) (omega (arith, fits here, small here, l.invariant.kept)) in
+    let long : length (take n c.in-Some.part.now) ≡ n = length-take-le n c.in-Some.part.now (omega (arith, part_long here, small here)) in
+    record {
+      kept = same_len_mid l.at _ l.output x.new.dst x.auto.dst ∙ l.invariant.kept;
+      low = omega (arith, p, small here, l.invariant.low);
+      joined = λ ss s q. rw p (more (turn here) s q (l.invariant.joined ss s q) x.new.dst (x.auto.dst ∙ lent) (x.ensures ∙ onto_same _ _ (long ∙ sym lent)));
+    }
 
 pub returns : goal.returns
-returns c = λ ss s q. done s c.loop-i-test.false (c.loop-i.invariant.2 ss s q)
+returns c = λ ss s q.
+    let l = c.loop-entry in
+    let e = zip_end c.args.entries.now c.args.parts.now l.yielded c.into_iter-entry-iterator.result l.entry-iterator c.next.new.self c.next.result (cc) (cc) l.yielded_by c.in-None.is c.next.ensures.steps in
+    done (omega (arith, e, entries_long s, parts_long s)) (l.invariant.joined ss s q)

@@ -1,4 +1,4 @@
-use Prim.Native.Nat.{◌*◌, ◌-◌, ◌≤◌}
+use Prim.Native.Nat.{◌*◌, ◌≤◌}
 use mathlib.Core.Path.{◌≡◌}
 use mathlib.Core.Bool.{false}
 use mathlib.Core.List.{List}
@@ -9,8 +9,9 @@ use Rattle.whole_image.specs.Slots.{Slots}
 use Rattle.whole_image.proofs.ImageLaws.{Joined}
 use Rattle.whole_image.proofs.join.Given as goal
 
-abbrev pub invariant-loop-i : goal.invariant-loop-i
-invariant-loop-i l = (length l.output ≡ length l.initial.output) × (l.at ≤ l.i * 65536) × ((ss : List Slot) → Slots l.n l.state.banks l.work ss → any_overfull ss ≡ false → Joined ss l.initial.output l.output l.at l.i)
-
-abbrev pub decreases-loop-i : goal.decreases-loop-i
-decreases-loop-i l = l.n - l.i
+abbrev pub invariant-loop-entry : goal.invariant-loop-entry
+invariant-loop-entry l = record {
+  kept : length l.output ≡ length l.initial.output;
+  low : l.at ≤ length l.yielded * 65536;
+  joined : (ss : List Slot) → Slots l.entries l.parts ss → any_overfull ss ≡ false → Joined ss l.initial.output l.output l.at (length l.yielded);
+}

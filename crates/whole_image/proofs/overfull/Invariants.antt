@@ -1,12 +1,10 @@
-use Prim.Native.Nat.{◌-◌}
+use mathlib.Core.Path.{◌≡◌}
 use mathlib.Core.List.{List}
+use lib.ListN.{length, drop}
 use Rattle.bank.specs.Bank.{Slot}
+use Rattle.book.specs.Commit.{any_overfull}
 use Rattle.whole_image.specs.Slots.{Slots}
-use Rattle.whole_image.proofs.ImageLaws.{Passed}
 use Rattle.whole_image.proofs.overfull.Given as goal
 
-abbrev pub invariant-loop-i : goal.invariant-loop-i
-invariant-loop-i l = (ss : List Slot) → Slots l.n l.state.banks l.work ss → Passed ss l.i
-
-abbrev pub decreases-loop-i : goal.decreases-loop-i
-decreases-loop-i l = l.n - l.i
+abbrev pub invariant-loop-entry : goal.invariant-loop-entry
+invariant-loop-entry l = (ss : List Slot) → Slots l.entries l.parts ss → any_overfull (drop (length l.yielded) ss) ≡ any_overfull ss

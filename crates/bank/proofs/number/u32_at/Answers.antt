@@ -1,6 +1,7 @@
 use Rattle.bank.specs.Number.{u32_at}
+use native.Mathlib.Omega.{arith}
 use Rattle.bank.proofs.number.u32_at.Goals as goal
 
 pub returns : goal.returns
 unfolding u32_at
-returns c = c.u32_of.ensures
+returns c = omega (arith, c.from_le_bytes.ensures)

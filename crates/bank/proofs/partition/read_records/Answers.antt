@@ -1,7 +1,6 @@
 -- `read_records`: the walk from 24 stops where and why that from `at` does, which has `count` records before it; `turn_next` passes a record,
 -- `turn_halt` and `turn_end` are the exits.
 use native.Mathlib.Omega.{arith}
-use borrow.Author.Rules.{rules}
 use mathlib.Core.Path.{refl, sym, ◌∙◌}
 use lib.ListN.{length-take, length-drop}
 use Rattle.bank.proofs.PartitionLaws.{turn_next, turn_halt, turn_end}
@@ -11,26 +10,26 @@ pub loop-at-init : goal.loop-at-init
 loop-at-init c = (omega arith, omega arith, refl)
 
 pub parse-requires : goal.parse-requires
-parse-requires c = (simp (length-take, length-drop) (omega arith), search rules)
+parse-requires c = simp (length-take, length-drop) (omega (arith, c.told-nvr))
 
-pub overflow_add-at-in-Next : goal.overflow_add-at-in-Next
-overflow_add-at-in-Next c = let a = c.args in let now = c.loop-at in
-    let t = turn_next a.nvr.now a.size now.at c.parse.result (omega arith) c.parse.ensures _ c.in-Next.is in
+pub overflow_add-at-in-Ok : goal.overflow_add-at-in-Ok
+overflow_add-at-in-Ok c = let a = c.args in let now = c.loop-at in
+    let t = turn_next a.nvr.now a.size now.at c.told-nvr c.parse.result (omega arith) c.parse.ensures _ c.in-Ok.is in
     omega (arith, t.within)
 
 pub loop-at-smaller : goal.loop-at-smaller
 loop-at-smaller c = let a = c.args in let now = c.loop-at in
-    let t = turn_next a.nvr.now a.size now.at c.parse.result (omega arith) c.parse.ensures _ c.in-Next.is in
+    let t = turn_next a.nvr.now a.size now.at c.told-nvr c.parse.result (omega arith) c.parse.ensures _ c.in-Ok.is in
     omega (arith, t.within, t.more)
 
 pub loop-at-preserved : goal.loop-at-preserved
 loop-at-preserved c = let a = c.args in let now = c.loop-at in
-    let t = turn_next a.nvr.now a.size now.at c.parse.result (omega arith) c.parse.ensures _ c.in-Next.is in
+    let t = turn_next a.nvr.now a.size now.at c.told-nvr c.parse.result (omega arith) c.parse.ensures _ c.in-Ok.is in
     (omega (arith, t.within), omega (arith, t.more), now.invariant.2 ∙ t.same now.count)
 
-pub returns-in-Halt : goal.returns-in-Halt
-returns-in-Halt c = let a = c.args in let now = c.loop-at in
-    sym (now.invariant.2 ∙ turn_halt a.nvr.now a.size now.at c.parse.result (omega arith) c.parse.ensures now.count _ c.in-Halt.is)
+pub returns-in-Err : goal.returns-in-Err
+returns-in-Err c = let a = c.args in let now = c.loop-at in
+    sym (now.invariant.2 ∙ turn_halt a.nvr.now a.size now.at c.told-nvr c.parse.result (omega arith) c.parse.ensures now.count _ c.in-Err.is)
 
 pub returns : goal.returns
 returns c = let a = c.args in let now = c.loop-at in sym (now.invariant.2 ∙ turn_end a.nvr.now a.size now.at now.count (omega arith))

@@ -6,40 +6,39 @@ use Rattle.bank.proofs.WriteLaws.{Given, total_low, total_high, copied_raw, copi
 use borrow.Rule.Slice.PartMut.{same_len_mid}
 use native.Mathlib.Omega.{arith}
 use mathlib.Core.Path.{ap, ◌∙◌}
-use Rattle.bank.proofs.partition.write.Goals.{After-shared_slice_known-1}
+use Rattle.bank.proofs.partition.write.Goals.{Start}
 use Rattle.bank.proofs.partition.write.Goals as goal
 
-given : (c : After-shared_slice_known-1) → Given c.args.nvr.now c.args.out.now c.requires.2.0 c.args.total
+given : (c : Start) → Given c.args.nvr.now c.args.out.now c.requires.1.0 c.args.total
 given c = let p = c.requires in
     record {
-      bytes = λ i. omega (arith, c.type_inv.nvr i);
-      long = p.0;
-      room = p.1;
-      reads = p.2.1;
-      ends = p.2.2;
+      bytes = c.fits-nvr;
+      long = c.told-nvr;
+      room = p.0;
+      reads = p.1.1;
+      ends = p.1.2;
     }
 
 pub slice_bounds-copy-end : goal.slice_bounds-copy-end
-slice_bounds-copy-end c = let given = given (goal.at.slice_bounds-copy-end c).After-shared_slice_known-1 in
-    omega (arith, total_high given, given.long)
+slice_bounds-copy-end c = let given = given (goal.at.slice_bounds-copy-end c).Start in omega (arith, total_high given)
 
 pub normalize_all-requires : goal.normalize_all-requires
-normalize_all-requires c = let g = (given (goal.at.normalize_all-requires c).After-shared_slice_known-1) in
-    (total_low g, copied_long g _ c.copy.ensures, (c.requires.2.0.records, copied_raw g _ c.copy.ensures))
+normalize_all-requires c = let g = (given (goal.at.normalize_all-requires c).Start) in
+    (total_low g, copied_long g _ c.copy.ensures, (c.requires.1.0.records, copied_raw g _ c.copy.ensures))
 
 pub slice_bounds-fill_ff-count : goal.slice_bounds-fill_ff-count
-slice_bounds-fill_ff-count c = let g = (given (goal.at.slice_bounds-fill_ff-count c).After-shared_slice_known-1) in
+slice_bounds-fill_ff-count c = let g = (given (goal.at.slice_bounds-fill_ff-count c).Start) in
     written_long g _ c.copy.ensures _ (c.normalize_all.ensures _ (copied_raw g _ c.copy.ensures))
 
 pub slice_bounds-fill_ff-start : goal.slice_bounds-fill_ff-start
-slice_bounds-fill_ff-start c = let g = (given (goal.at.slice_bounds-fill_ff-start c).After-shared_slice_known-1) in
+slice_bounds-fill_ff-start c = let g = (given (goal.at.slice_bounds-fill_ff-start c).Start) in
     omega (arith, written_long g _ c.copy.ensures _ (c.normalize_all.ensures _ (copied_raw g _ c.copy.ensures)))
 
 pub shape_of-out : goal.shape_of-out
-shape_of-out c = let g = (given (goal.at.shape_of-out c).After-shared_slice_known-1) in let u = c.normalize_all.new.s in
+shape_of-out c = let g = (given (goal.at.shape_of-out c).Start) in let u = c.normalize_all.new.s in
     same_len_mid c.args.total (length u - c.args.total) u c.fill_ff.new.s (ap length c.fill_ff.ensures ∙ length-replicate _ 255)
     ∙ length_written g _ c.copy.ensures u (c.normalize_all.ensures _ (copied_raw g _ c.copy.ensures))
 
 pub returns : goal.returns
-returns c = let g = (given (goal.at.returns c).After-shared_slice_known-1) in
+returns c = let g = (given (goal.at.returns c).Start) in
     filled g _ c.copy.ensures _ (c.normalize_all.ensures _ (copied_raw g _ c.copy.ensures)) _ c.fill_ff.ensures

@@ -4,28 +4,36 @@ use Rattle.text.proofs.PutLaws.{join, fields, first, next, last}
 use Rattle.banklist.specs.Listing.{bank_line}
 use Rattle.banklist.proofs.lines.bank_line.Goals as goal
 
-pub put_all-at-requires : goal.put_all-at-requires
+pub put_all-requires : goal.put_all-requires
 unfolding bank_line field
-put_all-at-requires c = first (fields _ c.requires)
-
-pub put_number-at-requires : goal.put_number-at-requires
-unfolding bank_line field
-put_number-at-requires c = first (next c.put_all-at.ensures (fields _ c.requires))
-
-pub put_number-at-requires-2 : goal.put_number-at-requires-2
-unfolding bank_line field
-put_number-at-requires-2 c = first (next c.put_number-at.ensures (next c.put_all-at.ensures (fields _ c.requires)))
-
-pub put_number-at-requires-3 : goal.put_number-at-requires-3
-unfolding bank_line field
-put_number-at-requires-3 c = first (next c.put_number-at-2.ensures (next c.put_number-at.ensures (next c.put_all-at.ensures (fields _ c.requires))))
+put_all-requires c = first (fields _ c.requires)
 
 pub put_number-requires : goal.put_number-requires
 unfolding bank_line field
-put_number-requires c = last
-    (next c.put_number-at-3.ensures (next c.put_number-at-2.ensures (next c.put_number-at.ensures (next c.put_all-at.ensures (fields _ c.requires)))))
+put_number-requires c = rw c.from.ensures (first (next c.put_all.ensures (fields _ c.requires)))
+
+pub put_number-requires-2 : goal.put_number-requires-2
+unfolding bank_line field
+put_number-requires-2 c = let size = rw c.from.ensures at c.put_number.ensures in
+    rw c.from-2.ensures (first (next size (next c.put_all.ensures (fields _ c.requires))))
+
+pub put_number-requires-3 : goal.put_number-requires-3
+unfolding bank_line field
+put_number-requires-3 c = let size = rw c.from.ensures at c.put_number.ensures in
+    let generation = rw c.from-2.ensures at c.put_number-2.ensures in
+    rw c.from-3.ensures (first (next generation (next size (next c.put_all.ensures (fields _ c.requires)))))
+
+pub put_number-requires-4 : goal.put_number-requires-4
+unfolding bank_line field
+put_number-requires-4 c = let size = rw c.from.ensures at c.put_number.ensures in
+    let generation = rw c.from-2.ensures at c.put_number-2.ensures in
+    let system = rw c.from-3.ensures at c.put_number-3.ensures in
+    rw c.from-4.ensures (last (next system (next generation (next size (next c.put_all.ensures (fields _ c.requires))))))
 
 pub returns : goal.returns
 unfolding bank_line field line
-returns c = join c.put_all-at.ensures
-    (join c.put_number-at.ensures (join c.put_number-at-2.ensures (join c.put_number-at-3.ensures c.put_number.ensures)))
+returns c = let size = rw c.from.ensures at c.put_number.ensures in
+    let generation = rw c.from-2.ensures at c.put_number-2.ensures in
+    let system = rw c.from-3.ensures at c.put_number-3.ensures in
+    let common = rw c.from-4.ensures at c.put_number-4.ensures in
+    join c.put_all.ensures (join size (join generation (join system common)))

@@ -1,27 +1,19 @@
--- `check_slot`: by the kind, `slot_empty` and `slot_invalid`; a Valid one by its head (`slot_head`), of which a fault is unsound (`soundness_none`).
+-- `check_slot`: a slot that is not Valid holds nothing or is refused (`slot_blank`, `slot_not_blank`); a Valid one goes by its header (`slot_head`),
+-- of which a fault is refused (`soundness_none`).
 use mathlib.Core.Path.{sym, ap, ◌∙◌}
-use Rattle.nvram.specs.Part.{view_head}
 use Rattle.nvram.specs.Soundness.{soundness}
-use Rattle.nvram.proofs.SoundLaws.{soundness_none, slot_empty, slot_invalid, slot_head}
+use Rattle.nvram.proofs.KindLaws.{is_valid, not_valid}
+use Rattle.nvram.proofs.SoundLaws.{soundness_none, slot_blank, slot_not_blank, slot_head, head_bad}
 use Rattle.nvram.proofs.sound.check_slot.Goals as goal
 
-pub returns-in-Empty : goal.returns-in-Empty
-returns-in-Empty c = c.check_blank.ensures ∙ slot_empty _ _ _ c.in-Empty.is
+pub returns-then-is_blank : goal.returns-then-is_blank
+returns-then-is_blank c = slot_blank _ _ _ (not_valid _ c.if-ne.ensures) (sym c.if-is_blank.ensures)
 
-pub returns-in-Invalid : goal.returns-in-Invalid
-returns-in-Invalid c = c.check_blank-in-Invalid.ensures ∙ slot_invalid _ _ _ c.in-Invalid.is
+pub returns-else-is_blank : goal.returns-else-is_blank
+returns-else-is_blank c = slot_not_blank _ _ _ (not_valid _ c.if-ne.ensures) (sym c.if-is_blank.ensures)
 
-pub returns-in-Good : goal.returns-in-Good
-returns-in-Good c = c.check_bank.ensures ∙ ap (soundness _) (slot_head _ _ c.in-Valid.is _ (sym c.in-Good.is ∙ c.parse.ensures))
+pub returns-in_default : goal.returns-in_default
+returns-in_default c = soundness_none _ (sym (slot_head _ _ (is_valid _ c.if-ne.ensures) _ c.parse.ensures) ∙ head_bad _ _ _ c.in_default.not-Ok)
 
-pub returns-in-Signature : goal.returns-in-Signature
-unfolding view_head
-returns-in-Signature c = c.unsound.ensures ∙ soundness_none _ (sym (slot_head _ _ c.in-Valid.is _ (sym c.in-Signature.is ∙ c.parse.ensures)))
-
-pub returns-in-Version : goal.returns-in-Version
-unfolding view_head
-returns-in-Version c = c.unsound-in-Version.ensures ∙ soundness_none _ (sym (slot_head _ _ c.in-Valid.is _ (sym c.in-Version.is ∙ c.parse.ensures)))
-
-pub returns-in-Size : goal.returns-in-Size
-unfolding view_head
-returns-in-Size c = c.unsound-in-Size.ensures ∙ soundness_none _ (sym (slot_head _ _ c.in-Valid.is _ (sym c.in-Size.is ∙ c.parse.ensures)))
+pub returns : goal.returns
+returns c = c.check_bank.ensures ∙ ap (soundness _) (slot_head _ _ (is_valid _ c.if-ne.ensures) _ (sym c.in-Ok.is ∙ c.parse.ensures))

@@ -7,4 +7,4 @@ use Rattle.rate.proofs.places.in_range.Goals as goal
 
 pub returns : goal.returns
 unfolding in_range
-returns c = let l : length c.args.p ≡ 4 = search rules in rw (eq-eqb _ _ l)
+returns c = let l : length c.args.numbers ≡ 4 = search rules in rw (eq-eqb _ _ l)

@@ -9,9 +9,9 @@ use Rattle.records.proofs.check.next_record.Goals as goal
 pub returns-then-rest-lt-HEADER_SIZE : goal.returns-then-rest-lt-HEADER_SIZE
 returns-then-rest-lt-HEADER_SIZE c = let a = c.args in no_next a.s.now a.at (λ k. omega (arith, k.stands.ends))
 
-pub returns-then-u32_of : goal.returns-then-u32_of
+pub returns-then-from_le_bytes : goal.returns-then-from_le_bytes
 unfolding u16_at
-returns-then-u32_of c = let a = c.args in no_next a.s.now a.at (λ k. c.if-u32_of.true (omega (arith, k.stands.starts, k.reserved, c.u32_of.ensures)))
+returns-then-from_le_bytes c = let a = c.args in no_next a.s.now a.at (λ k. c.if-from_le_bytes.true (omega (arith, k.stands.starts, k.reserved, c.from_le_bytes.ensures)))
 
 pub returns-then-header-lt1 : goal.returns-then-header-lt1
 returns-then-header-lt1 c = let a = c.args in let h = c.parse-header in no_next a.s.now a.at (λ k. omega (arith, k.stands.named, name_is _ c.if-rest-lt-HEADER_SIZE.false h.result h.ensures))
@@ -26,9 +26,9 @@ returns-then-s-value-ne0 c = let a = c.args in let h = c.parse-header in let n =
 
 pub returns-then-stored-sum : goal.returns-then-stored-sum
 unfolding u16_at
-returns-then-stored-sum c = let a = c.args in let h = c.parse-header in let n = c.size in let sum = c.crc32_with-sum in let stored = c.parse-stored in let start = c.u32_of.ensures in
-    next_end a.s.now a.at c.if-rest-lt-HEADER_SIZE.false h.result h.ensures n.result n.ensures sum.result (sum.ensures.1 c.requires.1) stored.result stored.ensures (omega (arith, start, c.if-u32_of.false)) (omega (arith, start, c.if-u32_of.false)) c.if-header-lt1.false c.if-s-end.false c.if-s-value-ne0.false c.if-stored-sum.true
+returns-then-stored-sum c = let a = c.args in let h = c.parse-header in let n = c.size in let sum = c.crc32-sum in let stored = c.parse-stored in let start = c.from_le_bytes.ensures in
+    next_end a.s.now a.at c.if-rest-lt-HEADER_SIZE.false h.result h.ensures n.result n.ensures sum.result sum.ensures stored.result stored.ensures (omega (arith, start, c.if-from_le_bytes.false)) (omega (arith, start, c.if-from_le_bytes.false)) c.if-header-lt1.false c.if-s-end.false c.if-s-value-ne0.false c.if-stored-sum.true
 
 pub returns-else-stored-sum : goal.returns-else-stored-sum
-returns-else-stored-sum c = let a = c.args in let h = c.parse-header in let n = c.size in let sum = c.crc32_with-sum in let stored = c.parse-stored in
-    next_spoilt a.s.now a.at c.if-rest-lt-HEADER_SIZE.false h.result h.ensures n.result n.ensures sum.result (sum.ensures.1 c.requires.1) stored.result stored.ensures c.if-stored-sum.false
+returns-else-stored-sum c = let a = c.args in let h = c.parse-header in let n = c.size in let sum = c.crc32-sum in let stored = c.parse-stored in
+    next_spoilt a.s.now a.at c.if-rest-lt-HEADER_SIZE.false h.result h.ensures n.result n.ensures sum.result sum.ensures stored.result stored.ensures c.if-stored-sum.false

@@ -10,7 +10,7 @@ use Rattle.records.proofs.RecordWalk.{ToDelete}
 use Rattle.records.proofs.edit.delete_all.Given as goal
 
 abbrev pub invariant-loop-at : goal.invariant-loop-at
-invariant-loop-at l = (length l.work ≡ length l.initial.work) × (l.to ≤ length l.initial.work) × ((rs : List Record) → Holds l.initial.work l.from l.to rs → ToDelete l.key l.typ l.work l.at l.to (over l.from (records_bytes (removed l.key l.typ rs)) l.initial.work))
+invariant-loop-at l = (length l.work ≡ length l.initial.work) × (l.records.end ≤ length l.initial.work) × ((rs : List Record) → Holds l.initial.work l.records.start l.records.end rs → ToDelete l.key l.typ l.work l.at l.records.end (over l.records.start (records_bytes (removed l.key l.typ rs)) l.initial.work))
 
 abbrev pub decreases-loop-at : goal.decreases-loop-at
-decreases-loop-at l = l.to - l.at
+decreases-loop-at l = l.records.end - l.at

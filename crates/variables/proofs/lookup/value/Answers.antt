@@ -1,36 +1,37 @@
 -- `value`: by the answer of `get_variable` (`heard`). What is found lies in the work area and is the value (`fetch_at`); else it is `fetch_none`.
-use Prim.Native.Nat.{ℕ, ◌+◌, ◌-◌}
-use lib.ListN.{take, drop}
-use Rattle.book.specs.Call.{lookup}
-use Rattle.nvram.specs.Contract.{call}
-use Rattle.variables.specs.LookupAnswer.{lookup_answer}
-use Rattle.variables.proofs.LookupLaws.{found_of, fetch_at, fetch_none}
+use Prim.Native.Nat.{ℕ, ◌+◌, ◌-◌, ◌≤◌}
+use lib.ListN.{length, take, drop}
 use native.Mathlib.Omega.{arith}
-use mathlib.Core.Path.{◌≡◌, ap}
-use Rattle.variables.proofs.lookup.value.Goals.{After-get_variable}
+use mathlib.Core.Path.{◌≡◌, ap, ◌∙◌}
+use mathlib.Core.List.{List}
+use Rattle.std.specs.Prelude.{None, Ok}
+use Rattle.book.specs.Call.{fetch, handed}
+use Rattle.nvram.specs.Contract.{Does}
+use Rattle.variables.proofs.LookupLaws.{found_of, fetch_at, fetch_none}
+use Rattle.variables.proofs.lookup.value.Goals.{In-Ok-Some}
 use Rattle.variables.proofs.lookup.value.Goals as goal
 
-heard : (c : After-get_variable) → lookup_answer c.get_variable.result ≡ (call (lookup c.args.key.now c.args.typ) c.args.state c.args.work.now).answer
-heard c = c.get_variable.ensures.answer
+found : (c : In-Ok-Some) → let f = c.in-Ok-Some.found in let w = c.args.work.now in
+    (f.place + f.long ≤ length w) × ((x : List ℕ) → x ≡ take f.long (drop f.place w) → Does (fetch c.args.key.now c.args.typ) c.args.state w handed x c.args.state w)
+found c = fetch_at c.args.key.now c.args.typ c.args.state c.args.work.now _ (λ i. omega (arith, c.type_inv.work i)) (c.well_formed.0.1.1.1.1.1.0.1.0.1) c.get_variable.ensures.answer _ (c.in-Ok-Some.is ∙ ap Ok c.in-Ok-Some.field-0-is)
 
-pub overflow_add-end : goal.overflow_add-end
-overflow_add-end c = let a = c.args in
-    omega (arith, (fetch_at a.key.now a.typ a.state a.work.now _ (λ i. omega (arith, c.type_inv.work i)) (c.well_formed.0.1.1.1.1.1.0.1.0.1) (heard (goal.at.overflow_add-end c).After-get_variable) _ c.in-At.is).0)
+pub overflow_add-result : goal.overflow_add-result
+overflow_add-result c = omega (arith, (found (goal.at.overflow_add-result c).In-Ok-Some).0)
 
 pub slice_bounds-result-end : goal.slice_bounds-result-end
-slice_bounds-result-end c = let a = c.args in
-    (fetch_at a.key.now a.typ a.state a.work.now _ (λ i. omega (arith, c.type_inv.work i)) (c.well_formed.0.1.1.1.1.1.0.1.0.1) (heard (goal.at.slice_bounds-result-end c).After-get_variable) _ c.in-At.is).0
+slice_bounds-result-end c = (found (goal.at.slice_bounds-result-end c).In-Ok-Some).0
 
-pub returns-in-At : goal.returns-in-At
-returns-in-At c = let a = c.args in let f = c.in-At.found in
+pub returns-in-Ok-Some : goal.returns-in-Ok-Some
+returns-in-Ok-Some c =
+    let f = c.in-Ok-Some.found in
     let e : f.place + f.long - f.place ≡ f.long = omega arith in
-    (fetch_at a.key.now a.typ a.state a.work.now _ (λ i. omega (arith, c.type_inv.work i)) (c.well_formed.0.1.1.1.1.1.0.1.0.1) (heard (goal.at.returns-in-At c).After-get_variable) f c.in-At.is).1 _
-    (ap (λ (i : ℕ). take i (drop f.place a.work.now)) e)
+    (found (goal.at.returns-in-Ok-Some c).In-Ok-Some).1 _ (ap (λ (i : ℕ). take i (drop f.place c.args.work.now)) e)
 
-pub returns-in-Nothing : goal.returns-in-Nothing
-returns-in-Nothing c = let a = c.args in
-    fetch_none a.key.now a.typ a.state a.work.now c.get_variable.result (λ i. omega (arith, c.type_inv.work i)) (c.well_formed.0.1.1.1.1.1.0.1.0.1) (heard (goal.at.returns-in-Nothing c).After-get_variable) (ap found_of c.in-Nothing.is)
+pub returns-in-Ok-None : goal.returns-in-Ok-None
+returns-in-Ok-None c =
+    let q : c.get_variable.result ≡ Ok None = c.in-Ok-None.is ∙ ap Ok c.in-Ok-None.field-0-is in
+    fetch_none c.args.key.now c.args.typ c.args.state c.args.work.now c.get_variable.result (λ i. omega (arith, c.type_inv.work i)) (c.well_formed.0.1.1.1.1.1.0.1.0.1) c.get_variable.ensures.answer (ap found_of q)
 
-pub returns-in-Refused : goal.returns-in-Refused
-returns-in-Refused c = let a = c.args in
-    fetch_none a.key.now a.typ a.state a.work.now c.get_variable.result (λ i. omega (arith, c.type_inv.work i)) (c.well_formed.0.1.1.1.1.1.0.1.0.1) (heard (goal.at.returns-in-Refused c).After-get_variable) (ap found_of c.in-Refused.is)
+pub returns-in-Err : goal.returns-in-Err
+returns-in-Err c =
+    fetch_none c.args.key.now c.args.typ c.args.state c.args.work.now c.get_variable.result (λ i. omega (arith, c.type_inv.work i)) (c.well_formed.0.1.1.1.1.1.0.1.0.1) c.get_variable.ensures.answer (ap found_of c.in-Err.is)

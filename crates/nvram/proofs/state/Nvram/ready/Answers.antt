@@ -1,28 +1,28 @@
--- `Nvram::ready`: 6 where the test fails (`ready_6`), else by the kind of the active entry (`ready_as`), which is in the table (`active_in`).
+-- `Nvram::ready`: 6 where the test fails (`ready_6`), 7 where the active entry, which is in the table (`active_in`), is not Valid (`ready_7`); else
+-- where its records stand (`ready_at`).
 use native.Mathlib.Omega.{arith}
-use mathlib.Core.Path.{sym, ap, ◌∙◌}
-use Rattle.nvram.specs.declared.state.Kind.{Kind}
-use Rattle.nvram.specs.Ready.{by_kind}
+use Prim.Native.Nat.{◌<◌}
+use mathlib.Core.Path.{sym}
+use Rattle.nvram.proofs.KindLaws.{is_valid, not_valid}
 use Rattle.nvram.proofs.ActiveLaws.{active_in}
-use Rattle.nvram.proofs.ReadyLaws.{ready_6, ready_as, records_at}
+use Rattle.nvram.proofs.ReadyLaws.{ready_6, ready_7, ready_at}
+use Rattle.nvram.proofs.state.Nvram.ready.Goals.{Else-not-is_sound}
 use Rattle.nvram.proofs.state.Nvram.ready.Goals as goal
 
 pub returns-then-not-is_sound : goal.returns-then-not-is_sound
-returns-then-not-is_sound c = ready_6 c.args.self c.args.work.now (sym c.is_sound.ensures ∙ c.if-not-is_sound.true)
+returns-then-not-is_sound c = ready_6 c.args.self c.args.work.now (sym c.if-not-is_sound.ensures)
+
+inside : (c : Else-not-is_sound) → c.args.self.active < 16
+inside c = active_in (record { bytes = λ i. omega (arith, c.type_inv.work i); long = c.well_formed.0.1.1.1.1.1.0.1.0.1; ok = sym c.if-not-is_sound.ensures })
 
 pub bounds-self-i : goal.bounds-self-i
-bounds-self-i c = omega (arith, active_in (record { bytes = λ i. omega (arith, c.type_inv.work i); long = c.well_formed.0.1.1.1.1.1.0.1.0.1; ok = sym c.is_sound.ensures ∙ c.if-not-is_sound.false }))
+bounds-self-i c = inside (goal.at.bounds-self-i c).Else-not-is_sound
 
-pub returns-in-Empty : goal.returns-in-Empty
-unfolding by_kind
-returns-in-Empty c = let a = c.args in
-    sym (ap (λ (k : Kind). by_kind k a.self) c.in-Empty.is) ∙ ready_as a.self a.work.now (sym c.is_sound.ensures ∙ c.if-not-is_sound.false)
+pub bounds-self-i-2 : goal.bounds-self-i-2
+bounds-self-i-2 c = inside (goal.at.bounds-self-i-2 c).Else-not-is_sound
 
-pub returns-in-Invalid : goal.returns-in-Invalid
-unfolding by_kind
-returns-in-Invalid c = let a = c.args in
-    sym (ap (λ (k : Kind). by_kind k a.self) c.in-Invalid.is) ∙ ready_as a.self a.work.now (sym c.is_sound.ensures ∙ c.if-not-is_sound.false)
+pub returns-then-ne : goal.returns-then-ne
+returns-then-ne c = ready_7 _ _ (sym c.if-not-is_sound.ensures) (not_valid _ c.if-ne.ensures)
 
-pub returns-in-Valid : goal.returns-in-Valid
-returns-in-Valid c = let a = c.args in
-    records_at a.self ∙ sym (ap (λ (k : Kind). by_kind k a.self) c.in-Valid.is) ∙ ready_as a.self a.work.now (sym c.is_sound.ensures ∙ c.if-not-is_sound.false)
+pub returns : goal.returns
+returns c = ready_at _ _ (sym c.if-not-is_sound.ensures) (is_valid _ c.if-ne.ensures)
