@@ -3,7 +3,7 @@
  * store; docs/SPEC.md has the format and what each call promises.
  *
  * Where it runs: on x86-64. There is no library for a microcontroller yet. It calls memcpy and
- * memset and nothing else; a call takes 19 KiB of stack at most, as measured. The flash needs erase
+ * memset and nothing else; a call takes 3 KiB of stack at most, as measured. The flash needs erase
  * blocks of 65,536 bytes at the banks, and bytes that can be programmed again to clear further bits.
  *
  * Buffers. No function keeps a pointer, allocates, or reads or writes outside the buffers that it
