@@ -1,5 +1,6 @@
 // The store's calls. The state travels as bytes, of which `state_bytes` has the layout; bytes that hold none are refused as an unsound state is.
-ghost use Rattle.std.specs.Prelude.{◌≡◌, [], ◌∷◌, length};
+ghost use Rattle.std.specs.Prelude.{◌≡◌, [], ◌∷◌, length, ok_or};
+ghost use Rattle.state_bytes.specs.State.{read_state};
 ghost use Rattle.std.specs.Result.{result_unwrap_or};
 ghost use Rattle.refusal.specs.Refusal.{number_of};
 ghost use Rattle.records.specs.Figures.{no_figures};
@@ -14,12 +15,20 @@ ghost use Rattle.exports.specs.Store.{var_type_of, caller_of, fields_of, Calls, 
 
 use bank::VarType;
 use commit::Way;
+use nvram::Nvram;
 use records::{Figures, Found};
 use refusal::{Refusal, number_of};
 use requests::{Applied, Written};
 use state_bytes::{STATE, load, store};
 use tally::Caller;
 use variables::{Manner, get_variable, insert_variable, remove_variable};
+
+// The state that the bytes hold.
+fn state_in(bytes: &[u8]) -> Result<Nvram, Refusal>
+    ensures { result ≡ ok_or (read_state bytes.now) Refusal.NotSound }
+{
+    load(bytes).ok_or(Refusal::NotSound)
+}
 
 // C's numbers, of which each stands for a type or a caller: no `From`, since the crates below know none.
 fn var_type(typ: u32) -> VarType
@@ -55,7 +64,7 @@ fn insert_as(
 ) -> Result<(), Refusal>
     ensures { Calls (edit (insert (manner_of manner) key.now value.now (var_type_of typ))) state.old work.old [] (number_of result) [] state.new work.new [] }
 {
-    let mut loaded = load(state).ok_or(Refusal::NotSound)?;
+    let mut loaded = state_in(state)?;
     let edited = insert_variable(&mut loaded, work, key, value, var_type(typ), manner);
     store(loaded, state);
     edited
@@ -113,7 +122,7 @@ fn fields(found: Result<Option<Found>, Refusal>) -> [u64; 3]
 fn lookup_in(state: &[u8], work: &[u8], key: &[u8], typ: u32) -> Result<Option<Found>, Refusal>
     ensures { Calls (lookup key.now (var_type_of typ)) state.now work.now [] (number_of result) (fields_of (lookup_answer result)) state.now work.now [] }
 {
-    let loaded = load(state).ok_or(Refusal::NotSound)?;
+    let loaded = state_in(state)?;
     get_variable(loaded, work, key, var_type(typ))
 }
 
@@ -156,7 +165,7 @@ pub extern "C" fn feqyondil_value(
 fn figures_in(state: &[u8], work: &[u8]) -> Result<Figures, Refusal>
     ensures { Calls figures state.now work.now [] (number_of result) (fields_of (summed (number_of result) (result_unwrap_or result no_figures))) state.now work.now [] }
 {
-    let loaded = load(state).ok_or(Refusal::NotSound)?;
+    let loaded = state_in(state)?;
     figures::of_active(loaded, work)
 }
 
@@ -166,7 +175,7 @@ pub extern "C" fn feqyondil_figures(state: &[u8], work: &[u8], out: &mut [u64; 3
     ensures { Calls figures state.now work.now [] result out.new state.now work.now [] }
 {
     let figures = figures_in(state, work);
-    let used = figures.unwrap_or(Figures::none());
+    let used = figures.unwrap_or_default();
     *out = [used.system as u64, used.common as u64, used.count as u64];
     number_of(figures)
 }
@@ -174,11 +183,7 @@ pub extern "C" fn feqyondil_figures(state: &[u8], work: &[u8], out: &mut [u64; 3
 fn requests(answer: Applied) -> [u64; 4]
     ensures { result ≡ fields_of (applied answer) }
 {
-    let nothing = Written {
-        offset: 0,
-        length: 0,
-    };
-    let Written { offset, length } = answer.written.unwrap_or(nothing);
+    let Written { offset, length } = answer.written.unwrap_or_default();
     [
         u64::from(answer.erase.is_some()),
         answer.erase.unwrap_or(0) as u64,
@@ -249,7 +254,7 @@ pub extern "C" fn feqyondil_careful_commit(
 fn whole_image_in(state: &[u8], work: &[u8], output: &mut [u8]) -> Result<usize, Refusal>
     ensures { Calls (whole_image (length output.old)) state.now work.now output.old (number_of result) (result_unwrap_or result 0 ∷ []) state.now work.now output.new }
 {
-    let loaded = load(state).ok_or(Refusal::NotSound)?;
+    let loaded = state_in(state)?;
     whole_image::serialize(loaded, work, output)
 }
 

@@ -89,7 +89,7 @@ pub(crate) fn value_right(state: Nvram, work: &[u8], line: &[u8]) -> bool {
 pub(crate) fn figures_right(state: Nvram, work: &[u8], line: &[u8]) -> bool {
     let figures = figures::of_active(state, work);
     let number = u64::from(number_of(figures));
-    let used = figures.unwrap_or(Figures::none());
+    let used = figures.unwrap_or_default();
     let Figures {
         system,
         common,
@@ -132,11 +132,7 @@ pub(crate) fn commit_right(state: &mut Nvram, work: &mut [u8], line: &[u8], way:
     let mut output = [0u8; 196608];
     let applied = commit::apply(state, work, &mut output, way, caller(line));
     let Applied { erase, written } = applied;
-    let nothing = Written {
-        offset: 0,
-        length: 0,
-    };
-    let Written { offset, length } = written.unwrap_or(nothing);
+    let Written { offset, length } = written.unwrap_or_default();
     let answer = [
         u64::from(number_of(written)),
         u64::from(erase.is_some()),

@@ -13,7 +13,7 @@ use refusal::Refusal;
 use tally::Caller;
 
 // A write's offset in the flash, and how many bytes of the output it is to write.
-#[derive(Clone, Copy)]
+#[derive(Clone, Copy, Default)]
 pub struct Written {
     pub offset: usize,
     pub length: usize,

@@ -2,12 +2,8 @@
 use mathlib.Core.Path.{sym, ◌∙◌}
 use native.Mathlib.Omega.{arith}
 use borrow.Author.Rules.{rules}
-use lib.Bits.{xor_zero_l}
 use Rattle.crc32.proofs.TableSteps.{late_more, late_none}
 use Rattle.crc32.proofs.late_bytes.Goals as goal
-
-pub loop-i-init : goal.loop-i-init
-loop-i-init c = xor_zero_l _
 
 pub loop-i-preserved : goal.loop-i-preserved
 loop-i-preserved c = let now = c.loop-i in let a = c.args in let s = a.bytes.now in

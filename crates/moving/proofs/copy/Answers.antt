@@ -2,7 +2,7 @@
 use native.Mathlib.Omega.{arith}
 use mathlib.Core.Path.{sym}
 use Rattle.buffers.proofs.OverLaws.{over_none}
-use Rattle.moving.proofs.CopyLaws.{copy_more, copy_done}
+use Rattle.moving.proofs.CopyLaws.{copy_more}
 use Rattle.moving.proofs.copy.Goals as goal
 
 pub loop-i-init : goal.loop-i-init
@@ -13,9 +13,3 @@ loop-i-preserved c = let a = c.args in
     let p = c.requires in
     let l = c.loop-i in
     copy_more a.from a.to a.n a.w.now p.2 p.0 p.1 l.i l.w (omega arith) l.invariant
-
-pub returns : goal.returns
-returns c = let a = c.args in
-    let p = c.requires in
-    let l = c.loop-i in
-    copy_done a.from a.to a.n a.w.now p.2 p.0 p.1 l.i l.w (omega arith) l.invariant

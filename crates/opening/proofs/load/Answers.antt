@@ -13,9 +13,6 @@ use Rattle.opening.proofs.load.Goals as goal
 pub loop-i-init : goal.loop-i-init
 loop-i-init c = load_none _ _ _ c.no_banks-entries.ensures
 
-pub entry_of-requires : goal.entry_of-requires
-entry_of-requires c = (_, c.load_bank-slot.ensures.0, c.load_bank-slot.ensures.1)
-
 pub loop-i-preserved : goal.loop-i-preserved
 loop-i-preserved c = let l = c.loop-i in let r = c.load_bank-slot in let bs = c.args.banks.now in
     load_more _ c.args.work.now l.i l.work l.entries _ _ l.invariant _ _ _ _ (read_bank []) _ (omega (arith, length-map bs read_bank)) (omega (arith, length-map bs read_bank)) (omega (arith, length-map bs read_bank))

@@ -1,25 +1,13 @@
 -- `same_records`: both walks from 24 compare as those from `at` on; `turn_alike` passes two records, `turn_stop`, `turn_fault`, `turn_other` and `both_end`
 -- are the exits.
 use native.Mathlib.Omega.{arith}
-use mathlib.Core.Path.{refl, sym, ◌∙◌}
+use mathlib.Core.Path.{sym, ◌∙◌}
 use lib.ListN.{length-take, length-drop}
 use Rattle.settings.proofs.SideBySide.{record_lent, record_within, turn_alike, turn_other, turn_stop, turn_fault, both_end}
 use Rattle.settings.proofs.same_records.Goals as goal
 
-pub loop-at-init : goal.loop-at-init
-loop-at-init c = (omega arith, refl)
-
-pub ends-requires : goal.ends-requires
-ends-requires c = simp (length-take, length-drop) (omega (arith, c.told-one))
-
-pub ends-requires-then-ends : goal.ends-requires-then-ends
-ends-requires-then-ends c = simp (length-take, length-drop) (omega (arith, c.told-other))
-
 pub returns-then-ends : goal.returns-then-ends
 returns-then-ends c = c.ends-then-ends.ensures ∙ sym (c.loop-at.invariant.1 ∙ turn_stop c.args.one.now c.args.other.now c.args.size c.loop-at.at c.told-one c.told-other (omega arith) (sym c.ends.ensures ∙ c.if-ends.true))
-
-pub record_size-requires : goal.record_size-requires
-record_size-requires c = (simp (length-take, length-drop) (omega (arith, c.told-one)), sym c.ends.ensures ∙ c.if-ends.false)
 
 pub returns-in_default : goal.returns-in_default
 returns-in_default c =

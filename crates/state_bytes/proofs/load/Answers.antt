@@ -1,16 +1,12 @@
 -- `load`: the first i entries are read and their kinds known (`Reading`): `reading_none`, `reading_more` and `read_all` are start, turn and end. Too
 -- few bytes (`read_short`) or a kind over 2 (`unknown`) are no state.
-use mathlib.Core.Path.{◌≡◌, sym, ap, ◌∙◌}
+use mathlib.Core.Path.{◌≡◌, sym, ◌∙◌}
 use native.Mathlib.Omega.{arith}
-use lib.ListN.{length}
-use Rattle.state_bytes.proofs.LoopLaws.{reading_none, unknown, reading_more, read_all, read_short}
+use Rattle.state_bytes.proofs.LoopLaws.{unknown, reading_more, read_all, read_short}
 use Rattle.state_bytes.proofs.load.Goals as goal
 
 pub returns-then-bytes-lt-STATE : goal.returns-then-bytes-lt-STATE
 returns-then-bytes-lt-STATE c = sym (read_short _ c.if-bytes-lt-STATE.true)
-
-pub loop-i-init : goal.loop-i-init
-loop-i-init c = reading_none _ _ (ap length c.no_banks-banks.ensures) c.if-bytes-lt-STATE.false
 
 pub returns-in_err-banks : goal.returns-in_err-banks
 returns-in_err-banks c = c.from_residual.ensures ∙ sym (unknown c.loop-i.invariant c.loop-i-test.true (sym c.in_err-banks.was ∙ c.entry_at.ensures))

@@ -2,11 +2,8 @@
 -- `writing_more` and `written` are start, turn and end.
 use mathlib.Core.Path.{◌≡◌, refl}
 use native.Mathlib.Omega.{arith}
-use Rattle.state_bytes.proofs.LoopLaws.{writing_none, writing_more, written}
+use Rattle.state_bytes.proofs.LoopLaws.{writing_more, written}
 use Rattle.state_bytes.proofs.store.Goals as goal
-
-pub loop-i-init : goal.loop-i-init
-loop-i-init c = writing_none _ _ (omega arith) (omega arith)
 
 pub loop-i-preserved : goal.loop-i-preserved
 loop-i-preserved c = writing_more c.loop-i.invariant _ _ c.loop-i-test.true c.from.ensures c.put-in-loop-i.ensures

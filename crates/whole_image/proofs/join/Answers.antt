@@ -7,9 +7,9 @@ use mathlib.Core.List.{[]}
 use lib.Seq.{length-take-le}
 use lib.ListN.{length, take, drop, length-take, length-drop}
 use borrow.Rule.Slice.PartMut.{same_len_mid}
-use Rattle.std.proofs.lemmas.Slice.Zip.{zip_turn, zip_end}
+use Rattle.std.proofs.lemmas.Slice.Zip.{zip_turn}
 use Rattle.std.proofs.lemmas.List.{length_push}
-use Rattle.whole_image.proofs.ImageLaws.{Turn, entries_long, parts_long, size_fits, onto_same, begin, more, done}
+use Rattle.whole_image.proofs.ImageLaws.{Turn, entries_long, parts_long, size_fits, onto_same, begin, more}
 use Rattle.whole_image.proofs.join.Goals.{After-slot_size-size}
 use Rattle.whole_image.proofs.join.Goals as goal
 
@@ -30,9 +30,6 @@ small c = size_fits (turn c) c.requires.0.1
 
 pub loop-entry-init : goal.loop-entry-init
 loop-entry-init c = record { kept = refl; low = omega arith; joined = λ ss s q. begin ss c.args.output.now }
-
-pub overflow_add-at : goal.overflow_add-at
-overflow_add-at c = let here = (goal.at.overflow_add-at c).After-slot_size-size in omega (arith, fits here, small here)
 
 pub slice_bounds-copy-end-in-loop-entry : goal.slice_bounds-copy-end-in-loop-entry
 slice_bounds-copy-end-in-loop-entry c =
@@ -55,9 +52,3 @@ loop-entry-preserved c =
       low = omega (arith, p, small here, l.invariant.low);
       joined = λ ss s q. rw p (more (turn here) s q (l.invariant.joined ss s q) x.new.dst (x.auto.dst ∙ lent) (x.ensures ∙ onto_same _ _ (long ∙ sym lent)));
     }
-
-pub returns : goal.returns
-returns c = λ ss s q.
-    let l = c.loop-entry in
-    let e = zip_end c.args.entries.now c.args.parts.now l.yielded c.into_iter-entry-iterator.result l.entry-iterator c.next.new.self c.next.result (cc) (cc) l.yielded_by c.in-None.is c.next.ensures.steps in
-    done (omega (arith, e, entries_long s, parts_long s)) (l.invariant.joined ss s q)

@@ -8,7 +8,7 @@ use mathlib.Core.Path.{refl, ap, ◌∙◌, subst}
 use Prim.Native.Nat.{◌-◌}
 use Rattle.buffers.specs.Bytes.{over}
 use Rattle.bank.specs.Record.{records_bytes}
-use Rattle.bank.proofs.NormalizeLaws.{part_fits, step_more, step_within, step_next, ToNormalize, begin, done}
+use Rattle.bank.proofs.NormalizeLaws.{part_fits, step_within, step_next, ToNormalize, begin, done}
 use Rattle.bank.proofs.partition.normalize_all.Goals as goal
 
 pub loop-at-init : goal.loop-at-init
@@ -21,15 +21,6 @@ normalize-at-requires c = let now = c.loop-at in let a = c.args in let pre = c.r
 pub overflow_add-at : goal.overflow_add-at
 overflow_add-at c = let now = c.loop-at in let a = c.args in let pre = c.requires in let n = c.normalize-at in
     omega (arith, step_within a.total _ now.s now.at (now.invariant.2 pre.2.0 pre.2.1) (omega arith) n.result n.new.s n.ensures.0 n.ensures.1)
-
-pub loop-at-smaller : goal.loop-at-smaller
-loop-at-smaller c = let now = c.loop-at in let a = c.args in let pre = c.requires in let n = c.normalize-at in
-    let k = now.invariant.2 pre.2.0 pre.2.1 in
-    omega (
-      arith,
-      step_within a.total _ now.s now.at k (omega arith) n.result n.new.s n.ensures.0 n.ensures.1,
-      step_more a.total _ now.s now.at k (omega arith) n.result n.new.s n.ensures.0 n.ensures.1,
-    )
 
 pub loop-at-preserved : goal.loop-at-preserved
 loop-at-preserved c = let now = c.loop-at in let a = c.args in let pre = c.requires in let n = c.normalize-at in (

@@ -1,16 +1,9 @@
 -- `read_records`: the walk from 24 stops where and why that from `at` does, which has `count` records before it; `turn_next` passes a record,
 -- `turn_halt` and `turn_end` are the exits.
 use native.Mathlib.Omega.{arith}
-use mathlib.Core.Path.{refl, sym, ◌∙◌}
-use lib.ListN.{length-take, length-drop}
+use mathlib.Core.Path.{sym, ◌∙◌}
 use Rattle.bank.proofs.PartitionLaws.{turn_next, turn_halt, turn_end}
 use Rattle.bank.proofs.partition.read_records.Goals as goal
-
-pub loop-at-init : goal.loop-at-init
-loop-at-init c = (omega arith, omega arith, refl)
-
-pub parse-requires : goal.parse-requires
-parse-requires c = simp (length-take, length-drop) (omega (arith, c.told-nvr))
 
 pub overflow_add-at-in-Ok : goal.overflow_add-at-in-Ok
 overflow_add-at-in-Ok c = let a = c.args in let now = c.loop-at in

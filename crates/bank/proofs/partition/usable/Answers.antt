@@ -9,12 +9,6 @@ use Rattle.std.proofs.Common.{⊎_elim}
 use Prim.Native.Nat.{ℕ, ◌+◌, ◌-◌}
 use Rattle.bank.proofs.partition.usable.Goals as goal
 
-pub slice_bounds-lead_ff-count : goal.slice_bounds-lead_ff-count
-slice_bounds-lead_ff-count c = omega (arith, c.requires.2 c.in-Blank.is)
-
-pub slice_bounds-lead_ff-start : goal.slice_bounds-lead_ff-start
-slice_bounds-lead_ff-start c = omega (arith, c.requires.2 c.in-Blank.is)
-
 pub overflow_add-result : goal.overflow_add-result
 overflow_add-result c = let a = c.args in let n = a.size - (a.at + 36) in let l = drop (a.at + 36) a.nvr.now in
     omega (arith, c.lead_ff.ensures, count_ff_le (take n l), length-take n l)

@@ -21,12 +21,12 @@ pub returns-in_err-loaded : goal.returns-in_err-loaded
 returns-in_err-loaded c =
     let a = c.args in
     let p = err_from_is_err_and c.from_residual.result c.from_residual.ensures.1 in
-    let q = not_loaded _ _ _ _ c.load.ensures (sym c.ok_or.ensures.value ∙ c.in_err-loaded.was) (p.1 ∙ ap Err p.2) in
+    let q = not_loaded _ _ _ _ refl (sym c.state_in.ensures ∙ c.in_err-loaded.was) (p.1 ∙ ap Err p.2) in
     rw q.0 (calls_6 (lookup a.key.now (var_type_of a.typ)) a.state.now a.work.now [] _ _ [] q.1 (refl, refl, refl))
 
 pub returns : goal.returns
 returns c =
     let a = c.args in
     let t = c.var_type.ensures in
-    keeps (lookup a.key.now (var_type_of a.typ)) a.state.now a.work.now [] _ _ [] _ (loaded _ _ _ c.load.ensures (sym c.ok_or.ensures.value ∙ c.in_ok-loaded.was))
+    keeps (lookup a.key.now (var_type_of a.typ)) a.state.now a.work.now [] _ _ [] _ (loaded _ _ _ refl (sym c.state_in.ensures ∙ c.in_ok-loaded.was))
     _ [] (same_number c.get_variable.result, refl, refl) _ (λ i. omega (arith, c.type_inv.state i)) (rw t at c.get_variable.ensures)

@@ -6,9 +6,6 @@ use lib.ListN.{set, length-set}
 use Rattle.buffers.proofs.OverLaws.{over_set, over_cons}
 use Rattle.longest.proofs.slide.put_window.Goals as goal
 
-pub bounds-out-p-2 : goal.bounds-out-p-2
-bounds-out-p-2 c = rw length-set (omega arith)
-
 pub returns : goal.returns
 returns c = let w = c.args.out.now in
     let p = 2 * c.args.first in

@@ -1,17 +1,13 @@
 -- `find`: whatever records stand there, what is found from `at` on is what is found in all (`Look`); `look`, `see` and `unseen` are start, turn and
 -- end, and a match leaves by the `hit` of `see`.
-use native.Mathlib.Omega.{arith}
 use mathlib.Core.Path.{sym}
 use mathlib.Core.List.{List}
 use Rattle.bank.specs.Record.{Record}
 use Rattle.records.specs.Match.{found_in}
 use Rattle.records.specs.Records.{Holds}
-use Rattle.records.proofs.RecordWalk.{Seen, look, see, unseen}
+use Rattle.records.proofs.RecordWalk.{Seen, see, unseen}
 use Rattle.records.proofs.edit.find.Goals.{After-parse-header}
 use Rattle.records.proofs.edit.find.Goals as goal
-
-pub loop-at-init : goal.loop-at-init
-loop-at-init c = λ rs h. look c.args.key.now c.args.typ h
 
 seen : (c : After-parse-header) (rs : List Record) → Holds c.args.work.now c.args.records.start c.args.records.end rs
     → Seen c.args.key.now c.args.typ c.args.work.now c.loop-at.at c.args.records.end (found_in c.args.key.now c.args.typ c.args.records.start rs) c.parse-header.result
@@ -24,17 +20,8 @@ here c = seen c c.requires.0 c.requires.1
 pub is_match-requires : goal.is_match-requires
 is_match-requires c = (here (goal.at.is_match-requires c).After-parse-header).test
 
-pub overflow_add-result : goal.overflow_add-result
-overflow_add-result c = omega (arith, (here (goal.at.overflow_add-result c).After-parse-header).within, c.size.ensures)
-
 pub returns-then-is_match : goal.returns-then-is_match
 returns-then-is_match c = λ rs h. (seen (goal.at.returns-then-is_match c).After-parse-header rs h).hit (sym c.if-is_match.ensures) c.size.result c.size.ensures
-
-pub overflow_add-at : goal.overflow_add-at
-overflow_add-at c = omega (arith, (here (goal.at.overflow_add-at c).After-parse-header).within, c.size-at.ensures)
-
-pub loop-at-smaller : goal.loop-at-smaller
-loop-at-smaller c = omega (arith, (here (goal.at.loop-at-smaller c).After-parse-header).within, c.size-at.ensures)
 
 pub loop-at-preserved : goal.loop-at-preserved
 loop-at-preserved c = λ rs h. (seen (goal.at.loop-at-preserved c).After-parse-header rs h).next (sym c.if-is_match.ensures) c.size-at.result c.size-at.ensures

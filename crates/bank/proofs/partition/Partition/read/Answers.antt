@@ -3,9 +3,6 @@ use Rattle.bank.proofs.PartitionLaws.{read_fault}
 use mathlib.Core.Path.{sym, ◌∙◌}
 use Rattle.bank.proofs.partition.Partition.read.Goals as goal
 
-pub read_partition-requires : goal.read_partition-requires
-read_partition-requires c = sym c.parse.ensures ∙ c.in-Ok.is
-
 pub returns-in-Err : goal.returns-in-Err
 returns-in-Err c =
     sym (read_fault c.args.nvr.now _ (sym c.parse.ensures ∙ c.in-Err.is) ∙ simp (sym c.ne.ensures ∙ c.if-ne.true, sym c.all_ff.ensures ∙ c.if-all_ff.true))
