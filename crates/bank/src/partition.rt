@@ -58,7 +58,7 @@ pub struct Walked {
     pub count: usize,
 }
 
-// The records behind the header, one after the other, of a bank of this size. By hand: that a record fits, where reading
+// The records behind the header, one after the other, of a bank of this size, which is a header's: see `StoreHeader`. By hand: that a record fits, where reading
 // stops and why are facts of the walked bytes, and an iterator would say no less of them in its contract than this loop in its invariant.
 pub fn read_records(nvr: &[u8; Partition::SIZE], size: usize) -> Walked
     requires { size ≤ 65536 }
@@ -131,7 +131,8 @@ fn normalize(s: &mut [u8]) -> usize
     Variable::size(header.name_size, header.data_size)
 }
 
-// The same for each record from the header's end up to total; by hand, since each changes the bytes that say where the next begins.
+// The same for each record from the header's end up to total; by hand, since it changes the bytes that it walks along, and a record's size says
+// where the next begins.
 fn normalize_all(s: &mut [u8], total: usize)
     requires { (24 ≤ total) × (total ≤ length s.old) × ((rs : List Record) × Raw (take (total - 24) (drop 24 s.old)) rs) }
     ensures { (rs : List Record) → Raw (take (total - 24) (drop 24 s.old)) rs → s.new ≡ over 24 (records_bytes rs) s.old }
@@ -142,7 +143,7 @@ fn normalize_all(s: &mut [u8], total: usize)
     }
 }
 
-// The first total bytes of a bank as they would be written, and 0xFF after them. That the bank was read with this total is `read`'s answer; a type that
+// The first total bytes of a bank as they would be written, and 0xFF after them, to an output that may be longer than a bank. That the bank was read with this total is `read`'s answer; a type that
 // said so would hold the bank beside it.
 fn write(nvr: &[u8; Partition::SIZE], total: usize, out: &mut [u8])
     requires { (65536 ≤ length out.old) × ((b : Bank) × (read_bank nvr.now ≡ valid b) × (total ≡ total_of b)) }

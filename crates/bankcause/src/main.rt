@@ -6,6 +6,7 @@ mod line;
 use bank::Partition;
 use line::{OUT, cause_line};
 
+// Two programs, banklist and bankcause: what they share is `streams::run`.
 fn main(rt: HostRuntime) {
     streams::run(
         &rt,

@@ -7,6 +7,7 @@ mod listing;
 use bank::Partition;
 use listing::{OUT, listing};
 
+// Two programs, banklist and bankcause: what they share is `streams::run`.
 fn main(rt: HostRuntime) {
     streams::run(
         &rt,

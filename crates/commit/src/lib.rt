@@ -107,7 +107,7 @@ fn raised(header: StoreHeader) -> StoreHeader
     }
 }
 
-// A commit that moves, of either way.
+// A commit that moves, of either way. The output may be longer than a bank, and so is no array.
 fn move_on(
     state: &mut Nvram,
     work: &mut [u8],

@@ -53,7 +53,7 @@ pub extern "C" fn feqyondil_open(image: &[u8], state: &mut [u8], work: &mut [u8]
     number_of(opened)
 }
 
-// An insert on the state that the bytes hold.
+// An insert on the state that the bytes hold. Each argument is lent by C on its own, here and below: key, type and value, work area and output.
 fn insert_as(
     state: &mut [u8],
     work: &mut [u8],

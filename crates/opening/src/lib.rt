@@ -27,7 +27,7 @@ struct Best {
 }
 
 impl Best {
-    // With bank i, which was read as this slot: only a strictly greater generation takes over.
+    // With bank i, which was read as this slot: only a strictly greater generation takes over. A bank's index is a plain number: see `Nvram`.
     fn after(self, i: usize, slot: Slot) -> Best
         requires { i < 16 }
         ensures { (k : Read) (rest : List Read) → slot ≡ answer k → active_from i self.generation self.active (k ∷ rest) ≡ active_from (suc i) result.generation result.active rest }
