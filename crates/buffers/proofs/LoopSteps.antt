@@ -1,17 +1,27 @@
--- Turns of loops over bytes: a test of all is one test and that of the rest (`Both`), and decides or goes on (`test_fails`, `test_holds`); what is lent
--- as a part of a slice; one byte more copied.
+-- Turns of loops over bytes: a test of all is one test and that of the rest (`Both`), and decides or goes on (`test_fails`, `test_holds`) or is kept in a
+-- flag (`flag_more`, `flag_none`); what is lent as a part of a slice; one byte more compared, and copied.
 use Prim.Native.Nat.{ℕ, suc, ◌+◌, ◌-◌, ◌≤◌, ◌<◌}
-use mathlib.Core.Path.{◌≡◌, sym, ap, ◌∙◌}
+use mathlib.Core.Path.{◌≡◌, refl, sym, ap, ◌∙◌}
 use mathlib.Core.List.{List, [], ◌∷◌, ◌++◌, append_assoc}
-use mathlib.Core.Bool.{Bool, true, false, ◌&&◌}
+use mathlib.Core.Bool.{Bool, true, false, ◌&&◌, and_assoc, and-true}
 use native.Mathlib.Numerals.{add-one}
 use native.Mathlib.Omega.{arith}
-use lib.ListN.{length, get_or, set, take, drop, take-append-drop, length-drop}
+use lib.Dec.{eqb}
+use lib.ListN.{length, get_or, set, take, drop, take-append-drop, drop_of_length-le, length-drop}
 use lib.Seq.{drop-cons, drop-drop, take_all, length-take-le, set_at, take-suc}
+use Rattle.buffers.specs.Bytes.{eq_bytes}
+use Rattle.buffers.proofs.Laws.{eq_bytes_lem}
 
 -- a test of all, by one test and the test of the rest
 pub record Both (all t rest : Bool) : Type 0 where
   pub is : all ≡ (t && rest)
+
+-- a loop that keeps a flag: one test more, and none left
+pub flag_more : {all ok left t rest : Bool} → Both all ok left → Both left t rest → Both all (ok && t) rest
+flag_more {ok = ok} {t = t} {rest = rest} p q = record { is = p.is ∙ ap (λ (b : Bool). ok && b) q.is ∙ sym (and_assoc ok t rest) }
+
+pub flag_none : {all ok left : Bool} → Both all ok left → left ≡ true → ok ≡ all
+flag_none {ok = ok} p q = sym (p.is ∙ ap (λ (b : Bool). ok && b) q ∙ and-true ok)
 
 -- a loop that leaves at the first test that fails: one that fails, and one that does not
 module _ {all left t rest : Bool} (p : all ≡ left) (q : Both left t rest) where
@@ -34,6 +44,24 @@ pub part : (s : List ℕ) (i e : ℕ) → i ≤ e → drop i s ≡ take (e - i) 
 part s i e h =
     let n : i + (e - i) ≡ e = omega arith in
     sym (take-append-drop (e - i) (drop i s)) ∙ ap (λ (l : List ℕ). take (e - i) (drop i s) ++ l) (drop-drop (e - i) i s ∙ ap (λ (k : ℕ). drop k s) n)
+
+pub other_length : (a b : List ℕ) → (length a ≡ length b → ⊥) → false ≡ eq_bytes a b
+other_length a b h = go (eq_bytes a b) refl
+  where
+    go : (t : Bool) → eq_bytes a b ≡ t → false ≡ t
+    go false e = refl
+    go true e = absurd (h (ap length (eq_bytes_lem a b e)))
+
+module _ (a b : List ℕ) (l : length a ≡ length b) where
+  pub eq_more : (i : ℕ) → i < length a → Both (eq_bytes (drop i a) (drop i b)) (eqb (get_or a i 0) (get_or b i 0)) (eq_bytes (drop (i + 1) a) (drop (i + 1) b))
+  unfolding eq_bytes
+  eq_more i h =
+      let k : i < length b = omega arith in
+      record { is = rw (add-one, drop-cons a i 0 h, drop-cons b i 0 k) }
+
+  pub eq_none : (i : ℕ) → length a ≤ i → eq_bytes (drop i a) (drop i b) ≡ true
+  unfolding eq_bytes
+  eq_none i h = let k : length b ≤ i = omega arith in rw (drop_of_length-le a h, drop_of_length-le b k)
 
 -- one byte more over the front of what was there
 write_more : (p d : List ℕ) (i x : ℕ) → length p ≡ i → i < length d → set (p ++ drop i d) i x ≡ (p ++ (x ∷ [])) ++ drop (i + 1) d

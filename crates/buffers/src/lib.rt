@@ -10,6 +10,9 @@ const BLOCK: usize = 512;
 // Smaller where the block that has another byte is read again.
 const SHORT: usize = 128;
 
+// As many bytes as are compared in line, with no call: a GUID has as many.
+const IN_LINE: usize = 16;
+
 // No early exit, or the loop stays a byte at a time.
 fn block_ff(s: &[u8]) -> bool
     ensures { result ≡ all_ff s.now }
@@ -48,11 +51,35 @@ pub fn lead_ff(s: &[u8]) -> usize
     at + lead_bytes(&s[at..])
 }
 
-// Whether both have the same bytes, and as many.
+// No early exit, as in `block_ff`: where the caller's length is a constant, as a GUID's, the loop becomes one comparison.
+fn short_same(a: &[u8], b: &[u8]) -> bool
+    requires { length a.now ≡ length b.now }
+    ensures { result ≡ eq_bytes a.now b.now }
+{
+    let mut ok = true;
+    for i in 0..a.len() {
+        ok &= a[i] == b[i];
+    }
+    ok
+}
+
+// Whether both have the same bytes, and as many. Keys mostly differ in length or in the first byte; std's comparison of many is a call.
 pub fn same(a: &[u8], b: &[u8]) -> bool
     ensures { result ≡ eq_bytes a.now b.now }
 {
-    a == b
+    if a.len() != b.len() {
+        return false;
+    }
+    if a.len() == 0 {
+        return true;
+    }
+    if a[0] != b[0] {
+        return false;
+    }
+    if IN_LINE < a.len() {
+        return a == b;
+    }
+    short_same(a, b)
 }
 
 pub fn fill_ff(s: &mut [u8])

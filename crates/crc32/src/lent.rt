@@ -10,7 +10,9 @@ pub struct Tables<'a> {
 }
 
 impl<'a> Tables<'a> {
-    pub fn new() -> Self {
+    pub fn new() -> Self
+        ensures { IsTables 16 result.entries.now }
+    {
         Tables {
             entries: crate::rows(),
         }
@@ -19,6 +21,7 @@ impl<'a> Tables<'a> {
     // Those of a caller that has some.
     pub fn of(entries: &'a [u32; 4096]) -> Self
         requires { IsTables 16 entries.now }
+        ensures { result.entries.now ≡ entries.now }
     {
         Tables { entries }
     }

@@ -4,7 +4,6 @@ use mathlib.Core.Path.{◌≡◌, refl, sym, ap, ◌∙◌, subst}
 use mathlib.Core.List.{List, []}
 use mathlib.Core.Bool.{Bool, true, false, cond}
 use Rattle.std.specs.Prelude.{is_some, Result, Ok, Err}
-use Rattle.std.specs.declared.ops.Range.{Range}
 use native.Mathlib.Omega.{arith}
 use lib.ListN.{length}
 use Rattle.crc32.specs.Crc32.{Bytes}
@@ -47,14 +46,14 @@ module _ (s : Nvram) (w : List ℕ) where
 
     -- the two places as the code works them out
     pub ready_at : (active_entry s).kind ≡ Valid
-        → Ok (record { start = s.active * 131072 + 24; end = s.active * 131072 + (active_entry s).total }) ≡ ready_of s w
+        → Ok (s.active * 131072 + 24, s.active * 131072 + (active_entry s).total) ≡ ready_of s w
     unfolding by_kind
     ready_at v =
-        sym (ap (λ (n : ℕ). Ok (record { start = n + 24; end = n + (active_entry s).total })) (part_times s.active))
+        sym (ap (λ (n : ℕ). Ok (n + 24, n + (active_entry s).total)) (part_times s.active))
         ∙ sym (ap (λ (k : Kind). by_kind k s) v)
         ∙ ready_as
 
--- the active bank's records stand here
+-- from where to where the active bank's records stand
 pub record Standing (s : Nvram) (w : List ℕ) (from to : ℕ) : Type 0 where
   pub sound : Sound s w
   pub valid : (active_entry s).kind ≡ Valid
@@ -82,7 +81,7 @@ module _ {s : Nvram} {w : List ℕ} {from to : ℕ} (k : Standing s w from to) w
   pub total_within : (active_entry s).total ≤ 131072
   total_within = omega (arith, total_is k.sound k.valid, total_high k.sound k.valid)
 
-module _ {s : Nvram} {w : List ℕ} (bytes : Bytes w) (long : length s.banks ≡ 16) {r : Result (Range ℕ) Refusal} (e : r ≡ ready_of s w) where
+module _ {s : Nvram} {w : List ℕ} (bytes : Bytes w) (long : length s.banks ≡ 16) {r : Result (ℕ × ℕ) Refusal} (e : r ≡ ready_of s w) where
   known : is_some (view s w) ≡ true → Sound s w
   known g = record { bytes = bytes; long = long; ok = g }
 
@@ -90,7 +89,7 @@ module _ {s : Nvram} {w : List ℕ} (bytes : Bytes w) (long : length s.banks ≡
   unfolding ready_of by_kind
   refused k c u q = go (is_some (view s w)) (active_entry s).kind refl refl (sym q ∙ e)
     where
-      told : (n : Refusal) → ◌≡◌ {A = Result (Range ℕ) Refusal} (Err k) (Err n) → Does c s w (refusal c (number n)) [] s w → Does c s w (refusal c (number k)) [] s w
+      told : (n : Refusal) → ◌≡◌ {A = Result (ℕ × ℕ) Refusal} (Err k) (Err n) → Does c s w (refusal c (number n)) [] s w → Does c s w (refusal c (number k)) [] s w
       told n p d = let z : n ≡ k = cc in subst (λ (i : Refusal). Does c s w (refusal c (number i)) [] s w) z d
 
       go : (g : Bool) (x : Kind) → is_some (view s w) ≡ g → (active_entry s).kind ≡ x → Err k ≡ cond g (by_kind x s) (Err NotSound)
@@ -100,15 +99,15 @@ module _ {s : Nvram} {w : List ℕ} (bytes : Bytes w) (long : length s.banks ≡
       go true Invalid a b p = told NotValid p (does_7 (known a) c u (invalid_valid _ b))
       go true Valid a b p = clash cc
 
-  pub standing : (x : Range ℕ) → r ≡ Ok x → Standing s w x.start x.end
+  pub standing : (x : ℕ × ℕ) → r ≡ Ok x → Standing s w x.0 x.1
   unfolding ready_of by_kind
   standing x q = go (is_some (view s w)) (active_entry s).kind refl refl (sym q ∙ e)
     where
       go : (g : Bool) (k : Kind) → is_some (view s w) ≡ g → (active_entry s).kind ≡ k → Ok x ≡ cond g (by_kind k s) (Err NotSound)
-          → Standing s w x.start x.end
+          → Standing s w x.0 x.1
       go false k a b p = clash cc
       go true Empty a b p = clash cc
       go true Invalid a b p = clash cc
       go true Valid a b p =
           let z : x ≡ records_at s = cc in
-          record { sound = known a; valid = b; from_is = ap (λ (y : Range ℕ). y.start) z; to_is = ap (λ (y : Range ℕ). y.end) z }
+          record { sound = known a; valid = b; from_is = ap (λ (y : ℕ × ℕ). y.0) z; to_is = ap (λ (y : ℕ × ℕ). y.1) z }

@@ -6,11 +6,10 @@ use super::sound::is_sound;
 use super::state::{Entry, Kind, Nvram};
 use bank::Variable;
 use refusal::Refusal;
-use std::ops::Range;
 
 impl Nvram {
-    // Where the active bank's records stand in the work area.
-    pub fn ready(self, work: &[u8]) -> Result<Range<usize>, Refusal>
+    // From where to where the active bank's records stand in the work area. Not a range, which cannot be copied.
+    pub fn ready(self, work: &[u8]) -> Result<(usize, usize), Refusal>
         ensures { result ≡ ready_of self work.now }
     {
         if !is_sound(self, work) {
@@ -22,6 +21,6 @@ impl Nvram {
             return Err(Refusal::NotValid);
         }
         let part = i * Nvram::PART_SIZE;
-        Ok(part + Variable::STORE_HEADER_SIZE..part + total as usize)
+        Ok((part + Variable::STORE_HEADER_SIZE, part + total as usize))
     }
 }

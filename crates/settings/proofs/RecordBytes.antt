@@ -218,36 +218,30 @@ same_bytes s t ks kt long value end l y z q u states r e =
     let b : end - value ≡ value_at s = omega (arith, l.value_is, l.end_is) in
     rw (q, u, a, b, l.value_is) (by_parts s t ks kt (sym long) r (stands s r e) states)
 
--- the start number and the state at once, as the code compares them
+-- the start number at once, as the code compares it
 
-three : (s t : List ℕ) → 3 ≤ length s → 3 ≤ length t
-    → eq_bytes (take 3 s) (take 3 t) ≡ (eqb (get_or s 0 0) (get_or t 0 0) && (eqb (get_or s 1 0) (get_or t 1 0) && (eqb (get_or s 2 0) (get_or t 2 0) && true)))
+two : (s t : List ℕ) → 2 ≤ length s → 2 ≤ length t
+    → eq_bytes (take 2 s) (take 2 t) ≡ (eqb (get_or s 0 0) (get_or t 0 0) && (eqb (get_or s 1 0) (get_or t 1 0) && true))
 unfolding eq_bytes
-three [] t l k = absurd (omega arith)
-three (a ∷ []) t l k = absurd (omega arith)
-three (a ∷ b ∷ []) t l k = absurd (omega arith)
-three (a ∷ b ∷ c ∷ s) [] l k = absurd (omega arith)
-three (a ∷ b ∷ c ∷ s) (x ∷ []) l k = absurd (omega arith)
-three (a ∷ b ∷ c ∷ s) (x ∷ y ∷ []) l k = absurd (omega arith)
-three (a ∷ b ∷ c ∷ s) (x ∷ y ∷ z ∷ t) l k = refl
+two [] t l k = absurd (omega arith)
+two (a ∷ []) t l k = absurd (omega arith)
+two (a ∷ b ∷ s) [] l k = absurd (omega arith)
+two (a ∷ b ∷ s) (x ∷ []) l k = absurd (omega arith)
+two (a ∷ b ∷ s) (x ∷ y ∷ t) l k = refl
 
-state_first : (a b c y z : Bool) → ((a && (b && (c && true))) && y && z) ≡ (c && (a && b && y && z))
-state_first true true true y z = refl
-state_first true true false y z = refl
-state_first true false true y z = refl
-state_first true false false y z = refl
-state_first false b true y z = refl
-state_first false b false y z = refl
+start_first : (a b y z : Bool) → ((a && (b && true)) && y && z) ≡ (a && b && y && z)
+start_first true true y z = refl
+start_first true false y z = refl
+start_first false b y z = refl
 
-pub same_record_bytes : (s t : List ℕ) → Bytes s → Bytes t → length s ≡ length t → (value end : ℕ) → Lengths s value end → (x y z : Bool)
-    → x ≡ eq_bytes (take 3 s) (take 3 t)
+pub same_fields_bytes : (s t : List ℕ) → Bytes s → Bytes t → length s ≡ length t → (value end : ℕ) → Lengths s value end → (x y z : Bool)
+    → x ≡ eq_bytes (take 2 s) (take 2 t)
     → y ≡ eq_bytes (take (value - 1 - 4) (drop 4 s)) (take (value - 1 - 4) (drop 4 t))
     → z ≡ eq_bytes (take (end - value) (drop value s)) (take (end - value) (drop value t))
-    → (r : Record) → found s ≡ got r
-    → (x && y && z) ≡ alike_at eqb r (found t)
-same_record_bytes s t ks kt long value end l x y z o q u r e =
+    → (states : ℕ → ℕ → Bool) (r : Record) → found s ≡ got r
+    → (states r.state (get_or t 2 0) && (x && y && z)) ≡ alike_at states r (found t)
+same_fields_bytes s t ks kt long value end l x y z o q u states r e =
     let h = begun_long s r e in
-    ap (λ (b : Bool). b && y && z) (o ∙ three s t (omega arith) (omega arith))
-    ∙ state_first (eqb (get_or s 0 0) (get_or t 0 0)) (eqb (get_or s 1 0) (get_or t 1 0)) (eqb (get_or s 2 0) (get_or t 2 0)) y z
-    ∙ ap (λ (i : ℕ). eqb i (get_or t 2 0) && (eqb (get_or s 0 0) (get_or t 0 0) && eqb (get_or s 1 0) (get_or t 1 0) && y && z)) (state_at_lem s r e)
-    ∙ same_bytes s t ks kt long value end l y z q u eqb r e
+    ap (λ (b : Bool). states r.state (get_or t 2 0) && (b && y && z)) (o ∙ two s t (omega arith) (omega arith))
+    ∙ ap (λ (b : Bool). states r.state (get_or t 2 0) && b) (start_first (eqb (get_or s 0 0) (get_or t 0 0)) (eqb (get_or s 1 0) (get_or t 1 0)) y z)
+    ∙ same_bytes s t ks kt long value end l y z q u states r e

@@ -1,7 +1,7 @@
 // Whether two banks hold the same settings, whatever bytes reading ignores: request N1.
 #![tactic(auto)]
 
-ghost use Rattle.std.specs.Prelude.{◌≡◌, ◌≤◌, false, eqb, length};
+ghost use Rattle.std.specs.Prelude.{◌≡◌, ◌≤◌, Bool, false, ◌&&◌, ℕ, eqb, length, get_or};
 ghost use Rattle.bank.specs.Record.{Record};
 ghost use Rattle.bank.specs.Read.{got, found, walk_from, read_bank};
 ghost use Rattle.settings.specs.Same.{alike_at, ends_at, size_here, same_walks, same_settings, compared};
@@ -10,21 +10,28 @@ use bank::{Partition, StoreHeader, VarHeader, Variable};
 use crc32::Tables;
 use refusal::Refusal;
 
-// Whether the other begins with a record equal to the one that begins the one. All bytes are compared but the reserved and the closing one, the
-// stored checksum too: so the other's is right as well.
-fn same_record(one: &[u8], other: &[u8]) -> bool
+// Whether the other begins with a record that has the fields of the record that begins the one, the states apart: those are the caller's to
+// compare. All bytes are compared but the state, the reserved and the closing one, the stored checksum too: so the other's is right as well.
+fn same_fields(one: &[u8], other: &[u8]) -> bool
     requires { (length one.now ≡ length other.now) × ((r : Record) × (found one.now ≡ got r)) }
-    ensures { (r : Record) → found one.now ≡ got r → result ≡ alike_at eqb r (found other.now) }
+    ensures { (states : ℕ → ℕ → Bool) (r : Record) → found one.now ≡ got r → (states r.state (get_or other.now 2 0) && result) ≡ alike_at states r (found other.now) }
 {
     let header = VarHeader::parse(one);
-    let reserved = 3;
+    let state = 2;
     let fields = 4;
     let value = Variable::size(header.name_size, 0);
     let closing = value - 1;
     let end = Variable::size(header.name_size, header.data_size);
-    buffers::same(&one[..reserved], &other[..reserved])
+    buffers::same(&one[..state], &other[..state])
         & buffers::same(&one[fields..closing], &other[fields..closing])
         & buffers::same(&one[value..end], &other[value..end])
+}
+
+fn same_record(one: &[u8], other: &[u8]) -> bool
+    requires { (length one.now ≡ length other.now) × ((r : Record) × (found one.now ≡ got r)) }
+    ensures { (r : Record) → found one.now ≡ got r → result ≡ alike_at eqb r (found other.now) }
+{
+    (one[2] == other[2]) & same_fields(one, other)
 }
 
 // Whether reading stops at nvr, what remains of a bank's 65,536 bytes, and the bank is not Invalid for it: by a wrong start number, as a blank has, or

@@ -29,8 +29,8 @@ pub fn remove_variable(
 ) -> Result<(), Refusal>
     ensures { Does (edit (remove key.now typ)) state work.old (edited (number_of result)) [] state work.new }
 {
-    let records = state.ready(work)?;
-    delete_all(work, records, key, typ);
+    let (from, to) = state.ready(work)?;
+    delete_all(work, from..to, key, typ);
     Ok(())
 }
 
@@ -59,11 +59,10 @@ fn inserted(
 ) -> Result<Nvram, Refusal>
     ensures { Does (edit (insert (manner_of manner) key.now value.now typ)) state work.old (edited (number_of result)) [] (result_unwrap_or result state) work.new }
 {
-    let records = state.ready(work)?;
-    let end = records.end;
+    let (from, to) = state.ready(work)?;
     let size = fresh_size(state, key.len(), value.len(), manner)?;
-    delete_all(work, records, key, typ);
-    append(work, end, 0, key, value, typ);
+    delete_all(work, from..to, key, typ);
+    append(work, to, 0, key, value, typ);
     state.banks[state.active as usize].total += size;
     Ok(state)
 }

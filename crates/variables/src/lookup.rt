@@ -17,8 +17,8 @@ pub fn get_variable(
 ) -> Result<Option<Found>, Refusal>
     ensures { Does (lookup key.now typ) state work.now (lookup_answer result) [] state work.now }
 {
-    let records = state.ready(work)?;
-    Ok(find(work, records, key, typ))
+    let (from, to) = state.ready(work)?;
+    Ok(find(work, from..to, key, typ))
 }
 
 // The value itself as a part of the work area, empty where there is none or the lookup is refused.

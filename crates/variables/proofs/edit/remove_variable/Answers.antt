@@ -7,20 +7,20 @@ use Rattle.book.specs.Edit.{remove}
 use Rattle.book.specs.Call.{edit}
 use Rattle.nvram.proofs.ReadyLaws.{Standing, records, here, standing, refused}
 use Rattle.variables.proofs.EditLaws.{removes}
-use Rattle.variables.proofs.edit.remove_variable.Goals.{In_ok-records}
+use Rattle.variables.proofs.edit.remove_variable.Goals.{In_ok-from}
 use Rattle.variables.proofs.edit.remove_variable.Goals as goal
 
-at_hand : (c : In_ok-records) → Standing c.args.state c.args.work.now c.in_ok-records.records.start c.in_ok-records.records.end
-at_hand c = standing (λ i. omega (arith, c.slice_known-1.given i)) (c.well_formed.0.1.1.1.1.1.0.1.0.1) c.ready.ensures _ c.in_ok-records.was
+at_hand : (c : In_ok-from) → Standing c.args.state c.args.work.now c.in_ok-from.from c.in_ok-from.to
+at_hand c = standing (λ i. omega (arith, c.slice_known-1.given i)) (c.well_formed.0.1.1.1.1.1.0.1.0.1) c.ready.ensures _ c.in_ok-from.was
 
 pub delete_all-requires : goal.delete_all-requires
-delete_all-requires c = let k = at_hand (goal.at.delete_all-requires c).In_ok-records in (records k, here k)
+delete_all-requires c = let k = at_hand (goal.at.delete_all-requires c).In_ok-from in (records k, here k)
 
-pub returns-in_err-records : goal.returns-in_err-records
-returns-in_err-records c =
+pub returns-in_err-from : goal.returns-in_err-from
+returns-in_err-from c =
     let p = err_from_is_err_and c.from_residual.result c.from_residual.ensures.1 in
     rw (p.1 ∙ ap Err p.2)
-    (refused (λ i. omega (arith, c.slice_known-1.given i)) (c.well_formed.0.1.1.1.1.1.0.1.0.1) c.ready.ensures _ (edit (remove c.args.key.now c.args.typ)) tt c.in_err-records.was)
+    (refused (λ i. omega (arith, c.slice_known-1.given i)) (c.well_formed.0.1.1.1.1.1.0.1.0.1) c.ready.ensures _ (edit (remove c.args.key.now c.args.typ)) tt c.in_err-from.was)
 
 pub returns : goal.returns
-returns c = let k = at_hand (goal.at.returns c).In_ok-records in removes k c.args.key.now c.args.typ _ (c.delete_all.ensures _ (here k))
+returns c = let k = at_hand (goal.at.returns c).In_ok-from in removes k c.args.key.now c.args.typ _ (c.delete_all.ensures _ (here k))
