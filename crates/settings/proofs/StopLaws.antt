@@ -2,13 +2,13 @@
 -- what `ends` and `record_size` find.
 use Prim.Native.Nat.{ℕ, ◌+◌, ◌≤◌, ◌<◌}
 use mathlib.Core.Path.{◌≡◌, refl, sym, ap, ◌∙◌}
-use mathlib.Core.List.{List}
+use mathlib.Core.List.{List, [], ◌∷◌}
 use mathlib.Core.Bool.{Bool, true, false, not, cond}
 use native.Mathlib.Omega.{arith}
 use lib.Dec.{ltb, eqb}
 use lib.ListN.{length, take, drop}
 use borrow.Author.Tests.{eq-eqb, le-leb, ltb-true, ltb-false, eqb-true, eqb-false}
-use Rattle.crc32.specs.Crc32.{crc32_of}
+use Rattle.crc32.specs.Crc32.{crc32_of, byte_steps}
 use Rattle.buffers.specs.Bytes.{all_blank}
 use Rattle.buffers.proofs.Laws.{clash}
 use Rattle.bank.specs.declared.partition.Stop.{Stop}
@@ -109,3 +109,8 @@ size_by_lem o t e = ap size_by e ∙ go o
     go : (o : Item) → size_by (step_of o) ≡ size_here o
     go (got r) = refl
     go (halt c) = refl
+
+pub empty_checksum : (s : List ℕ) → length s ≡ 0 → 0 ≡ crc32_of s
+unfolding crc32_of byte_steps
+empty_checksum [] e = refl
+empty_checksum (b ∷ s) e = absurd (omega arith)
